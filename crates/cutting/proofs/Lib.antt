@@ -1,0 +1,5 @@
+pub mod Next
+pub mod Lengths
+pub mod Cutting
+pub mod Table
+pub mod Retiring

@@ -1,0 +1,5 @@
+pub mod Cut
+pub mod Counters
+pub mod Left
+pub mod Retire
+pub mod Table

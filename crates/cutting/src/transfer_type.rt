@@ -1,0 +1,5 @@
+// Whether the receiver knows a transfer's size (`TransferType` of host_controller.rs).
+pub enum TransferType {
+    FixedSize,
+    VariableSize,
+}
