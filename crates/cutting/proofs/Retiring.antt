@@ -19,6 +19,11 @@ kept-fits off r k = go (ltb (0xFFFF - off) r) (ltb k r) (ltb-false (0xFFFF - off
     go false true f g h = let u = f refl in let v = g refl in (omega arith, omega arith, omega arith)
     go false false f g h = let u = f refl in let v = h refl in (omega arith, omega arith, omega arith)
 
+-- Of a packet no more is counted than there is room for, and than it has.
+pub retire-fits : (c : InDepacketiser) (k : ℕ) → (inRetire c k .count ≤ c .remain) × (inRetire c k .count ≤ k)
+unfolding inRetire
+retire-fits c k = (kept-fits (c .offset) (c .remain) k .0, kept-fits (c .offset) (c .remain) k .1)
+
 -- Offset and room together stay as they are.
 pub retire-sum : (c : InDepacketiser) (k : ℕ) → inRetire c k .rest .offset + inRetire c k .rest .remain ≡ c .offset + c .remain
 unfolding inRetire

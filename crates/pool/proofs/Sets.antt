@@ -174,6 +174,10 @@ first-same (suc n) k f g e =
     ap₂ (λ b x. cond b k x) (e k (omega arith)) (first-same n (suc k) f g (λ i l. e i (omega arith)))
 
 -- The lowest clear bit: it is no member, and every lower number is one.
+pub lowest-out-below : (s i : ℕ) → i < lowestOut s → has s i ≡ true
+unfolding lowestOut
+lowest-out-below s i h = not-false _ (first 32 0 (λ k. not (has s k)) .before i (omega arith) h)
+
 pub lowest-out-le : (s : ℕ) → lowestOut s ≤ 32
 unfolding lowestOut
 lowest-out-le s = first 32 0 (λ k. not (has s k)) .within
@@ -181,10 +185,6 @@ lowest-out-le s = first 32 0 (λ k. not (has s k)) .within
 pub lowest-out-no : (s : ℕ) → lowestOut s < 32 → has s (lowestOut s) ≡ false
 unfolding lowestOut
 lowest-out-no s h = not-true _ (first 32 0 (λ k. not (has s k)) .here h)
-
-pub lowest-out-below : (s i : ℕ) → i < lowestOut s → has s i ≡ true
-unfolding lowestOut
-lowest-out-below s i h = not-false _ (first 32 0 (λ k. not (has s k)) .before i (omega arith) h)
 
 pub lowest-out-is : (s r : ℕ) → r ≤ 32 → ((i : ℕ) → i < r → has s i ≡ true) → has s r ≡ false → lowestOut s ≡ r
 unfolding lowestOut

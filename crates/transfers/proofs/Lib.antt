@@ -1,0 +1,17 @@
+pub mod Logs
+pub mod Stores
+pub mod Errors
+pub mod Counts
+pub mod Armings
+pub mod Telling
+pub mod Steps
+pub mod Readiness
+pub mod Beginnings
+pub mod WokenPipes
+pub mod Statuses
+pub mod OpenPipes
+pub mod Isolation
+pub mod Apart
+pub mod Untouched
+pub mod PipeRows
+pub mod AllOpen

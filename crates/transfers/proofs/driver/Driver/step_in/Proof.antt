@@ -1,0 +1,34 @@
+-- `Driver::step_in` lifts the transfer's step. Assumes nothing.
+use native.Mathlib.Nat.{zero-add}
+use borrow.Author.Needs.{needs}
+use Rattle.transfers.proofs.driver.Driver.step_in.Statement.{statement}
+use Rattle.transfers.proofs.driver.Driver.step_in.Tie as tie
+
+step-in-requires : tie.Need-step-in-requires
+step-in-requires c κs = search needs
+
+with-transfer-requires : tie.Need-with-transfer-requires
+with-transfer-requires c κs = search needs
+
+same-length : tie.Need-same-length
+same-length c = search needs
+
+same-length-2 : tie.Need-same-length-2
+same-length-2 c = search needs
+
+same-length-3 : tie.Need-same-length-3
+same-length-3 c = search needs
+
+returns : tie.Need-returns
+returns c = let p = (c .before .before .before .before .before .before .before .before .step-in) .ensures in (record { result = simp ((c .with-transfer) .ensures, p .tells .result, zero-add); memory = p .memory; log = p .tells .log }, p .buffer)
+
+pub step-in-spec : {M : Type 1} → statement M
+step-in-spec =
+    tie.close
+    (tie.spec
+    step-in-requires
+    with-transfer-requires
+    same-length
+    same-length-2
+    same-length-3
+    returns)

@@ -1,0 +1,39 @@
+-- The calls on the driver: what each one hands back.
+use mathlib.Core.Path.{_≡_}
+use mathlib.Core.List.{List}
+use Prim.Native.Nat.{ℕ}
+use lib.ListN.{length}
+use Rattle.transfers.specs.declared.host_controller.DeviceStatus.the-variants.{Absent}
+use Rattle.transfers.specs.declared.driver.Driver.{Driver}
+use Rattle.transfers.specs.declared.driver.Transfer.{Transfer}
+use Rattle.transfers.specs.declared.driver.Transfer.the-variants.{Idle}
+use Rattle.transfers.specs.declared.control.Begun.{Begun}
+use Rattle.transfers.specs.declared.control.Stepped.{Stepped}
+use Rattle.transfers.specs.declared.control.Dropped.{Dropped}
+use Rattle.transfers.specs.Log.{logged}
+use Rattle.transfers.specs.Outcome.{Outcome}
+use Rattle.transfers.specs.Calls.{Cancelling, Beginning}
+use Rattle.transfers.specs.Pipes.{freshPipes}
+
+-- "A fresh driver has no transfer, no pipe open and the last status absent."
+abbrev pub fresh : Driver
+fresh = record { transfer = Idle; pipes = freshPipes; last = Absent }
+
+-- Pipes and last status stay.
+abbrev pub withTransfer : Driver → Transfer → Driver
+withTransfer d t = record { transfer = t; pipes = d .pipes; last = d .last }
+
+-- A begin's results: the answer with the next state, packet memory, and the log.
+pub record DidBegin (d : Driver) (o : Beginning) (l : List ℕ) (r : Begun) (m′ l′ : List ℕ) : Type 0 where
+  pub result : r ≡ record { next = withTransfer d (o .next); answer = o .answer; armed = o .armed; writes = length (o .writes) }
+  pub memory : m′ ≡ o .memory
+  pub log : l′ ≡ logged l 0 (o .writes)
+
+-- A step's results.
+pub record DidStep (d : Driver) (o : Outcome) (l : List ℕ) (r : Stepped) (m′ l′ : List ℕ) : Type 0 where
+  pub result : r ≡ record { next = withTransfer d (o .next); answer = o .answer; toggle = o .toggle; armed = o .armed; writes = length (o .writes) }
+  pub memory : m′ ≡ o .memory
+  pub log : l′ ≡ logged l 0 (o .writes)
+
+abbrev pub dropped : Driver → Cancelling → Dropped
+dropped d o = record { next = withTransfer d (o .next); answer = o .answer; toggle = o .toggle }

@@ -1,0 +1,21 @@
+-- Packet memory: "Packet memory is lent as 4,096 bytes. Sending copies the part of the caller's buffer from the offset on into a slot."
+use mathlib.Core.Bool.{Bool, true, false, _&&_}
+use mathlib.Core.List.{List}
+use Prim.Native.Nat.{ℕ}
+use lib.ListN.{length}
+use lib.Dec.{eqb, leb}
+
+-- "15 packet memory not 4,096 bytes, or log below 192 words"
+abbrev pub memoryFits : List ℕ → Bool
+memoryFits pm = eqb (length pm) 4096
+
+abbrev pub logFits : List ℕ → Bool
+logFits log = leb 192 (length log)
+
+abbrev pub lentFits : List ℕ → List ℕ → Bool
+lentFits pm log = memoryFits pm && logFits log
+
+-- "Slots alternate from 0 (at 0x180, then 0x1C0)."
+abbrev pub slotAddress : Bool → ℕ
+slotAddress false = 0x180
+slotAddress true = 0x1C0

@@ -1,0 +1,156 @@
+// Arming: `prepare` of the packetisers, once and twice.
+use crate::memory::fill_slot;
+use crate::sample::slot_available;
+use crate::writes::put_arm;
+use cutting::packetiser::InPacketiser;
+use cutting::packetiser::OptionArm;
+use cutting::packetiser::OutCounters;
+ghost use mathlib.Core.Path.{_≡_};
+ghost use Prim.Native.Nat.{_+_, _≤_, _<_};
+ghost use lib.ListN.{length};
+ghost use Rattle.transfers.specs.Arming.{mayArm, inArm, inArmTwo, outArm, outArmTwo};
+ghost use Rattle.transfers.specs.Arms.{ArmsIn, ArmsOut, ArmsOutTwo};
+
+pub(crate) struct InArmed {
+    pub packets: InPacketiser,
+    pub inflight: u8,
+    pub writes: usize,
+}
+
+pub(crate) struct OutArmed {
+    pub packets: OutCounters,
+    pub inflight: u8,
+    pub arm: OptionArm,
+    pub writes: usize,
+}
+
+pub(crate) struct OutArmedTwo {
+    pub packets: OutCounters,
+    pub inflight: u8,
+    pub first: OptionArm,
+    pub second: OptionArm,
+    pub writes: usize,
+}
+
+fn may_arm(buffers: u32, inflight: u8, slot: bool) -> bool
+    ensures { λ r. ⌜ r ≡ mayArm buffers inflight slot ⌝ }
+{
+    if inflight < 2 {
+        !slot_available(buffers, slot)
+    } else {
+        false
+    }
+}
+
+fn in_arm(buffers: u32, c: InPacketiser, inflight: u8, log: &mut [u32], k: usize) -> InArmed
+    requires { ⌜ (k ≤ 61) × (192 ≤ length (now log)) ⌝ }
+    ensures { λ r. ⌜ ArmsIn (inArm buffers c inflight) (now (log .entry)) k r (now (log .exit)) ⌝ }
+{
+    if !may_arm(buffers, inflight, c.slot) {
+        return InArmed {
+            packets: c,
+            inflight: inflight,
+            writes: k,
+        };
+    }
+    let next = c.next_packet();
+    let arm = next.arm;
+    let rest = next.rest;
+    match arm {
+        OptionArm::None => InArmed {
+            packets: rest,
+            inflight: inflight,
+            writes: k,
+        },
+        OptionArm::Some(a) => InArmed {
+            packets: rest,
+            inflight: inflight + 1,
+            writes: put_arm(log, k, false, a),
+        },
+    }
+}
+
+pub(crate) fn in_arm_two(
+    buffers: u32,
+    c: InPacketiser,
+    inflight: u8,
+    log: &mut [u32],
+    k: usize,
+) -> InArmed
+    requires { ⌜ (k ≤ 58) × (192 ≤ length (now log)) ⌝ }
+    ensures { λ r. ⌜ ArmsIn (inArmTwo buffers c inflight) (now (log .entry)) k r (now (log .exit)) ⌝ }
+{
+    let g = in_arm(buffers, c, inflight, log, k);
+    let d = g.packets;
+    in_arm(buffers, d, g.inflight, log, g.writes)
+}
+
+fn out_arm(
+    buffers: u32,
+    c: OutCounters,
+    inflight: u8,
+    buf: &[u8],
+    pm: &mut [u8],
+    log: &mut [u32],
+    k: usize,
+) -> OutArmed
+    requires { ⌜ (c .offset + c .remain ≤ length (now buf)) × (length (now pm) ≡ 4096) × (k ≤ 61) × (192 ≤ length (now log)) ⌝ }
+    ensures { λ r. ⌜ ArmsOut (outArm buffers c inflight (now (buf .entry)) (now (pm .entry))) (now (log .entry)) k r (now (pm .exit)) (now (log .exit)) ⌝ }
+{
+    if !may_arm(buffers, inflight, c.slot) {
+        return OutArmed {
+            packets: c,
+            inflight: inflight,
+            arm: OptionArm::None,
+            writes: k,
+        };
+    }
+    let next = c.next_packet();
+    let arm = next.arm;
+    let rest = next.rest;
+    match arm {
+        OptionArm::None => OutArmed {
+            packets: rest,
+            inflight: inflight,
+            arm: OptionArm::None,
+            writes: k,
+        },
+        OptionArm::Some(a) => {
+            let from = c.offset as usize;
+            fill_slot(pm, a.slot, &buf[from..], a.length as usize);
+            OutArmed {
+                packets: rest,
+                inflight: inflight + 1,
+                arm: OptionArm::Some(a),
+                writes: put_arm(log, k, true, a),
+            }
+        }
+    }
+}
+
+pub(crate) fn out_arm_two(
+    buffers: u32,
+    c: OutCounters,
+    inflight: u8,
+    buf: &[u8],
+    pm: &mut [u8],
+    log: &mut [u32],
+    k: usize,
+) -> OutArmedTwo
+    requires { ⌜ (c .offset + c .remain ≤ length (now buf)) × (length (now pm) ≡ 4096) × (k ≤ 58) × (192 ≤ length (now log)) ⌝ }
+    ensures { λ r. ⌜ ArmsOutTwo (outArmTwo buffers c inflight (now (buf .entry)) (now (pm .entry))) (now (log .entry)) k r (now (pm .exit)) (now (log .exit)) ⌝ }
+{
+    let g = out_arm(buffers, c, inflight, buf, pm, log, k);
+    let d = g.packets;
+    let first = g.arm;
+    let h = out_arm(buffers, d, g.inflight, buf, pm, log, g.writes);
+    let rest = h.packets;
+    let second = h.arm;
+    OutArmedTwo {
+        packets: rest,
+        inflight: h.inflight,
+        first: first,
+        second: second,
+        writes: h.writes,
+    }
+}

@@ -1,0 +1,219 @@
+// The driver's calls on the control pipe: begin, step and cancel.
+use crate::answers::Armed;
+use crate::answers::BeginAnswer;
+use crate::answers::CancelAnswer;
+use crate::answers::StepAnswer;
+use crate::driver::Driver;
+use crate::driver::Transfer;
+use crate::host_controller::DataPhase;
+use crate::host_controller::DeviceStatus;
+use crate::host_controller::TransferExtras;
+use crate::pipes::fresh_pipes;
+use crate::sample::Sample;
+use crate::wire::SetupPacket;
+use cutting::transfer_type::TransferType;
+ghost use mathlib.Core.Path.{_≡_};
+ghost use mathlib.Core.Bool.{true, false};
+ghost use Rattle.transfers.specs.Calls.{stepOf, cancelOf, beginControlOf, beginBulkInOf, beginBulkOutOf};
+ghost use Rattle.transfers.specs.Driver.{fresh, withTransfer, DidBegin, DidStep, dropped};
+
+pub struct Begun {
+    pub next: Driver,
+    pub answer: BeginAnswer,
+    pub armed: Armed,
+    pub writes: usize,
+}
+
+// `toggle` is a bulk transfer's: the one to go on with after done, else the one that came in.
+pub struct Stepped {
+    pub next: Driver,
+    pub answer: StepAnswer,
+    pub toggle: bool,
+    pub armed: Armed,
+    pub writes: usize,
+}
+
+pub struct Dropped {
+    pub next: Driver,
+    pub answer: CancelAnswer,
+    pub toggle: bool,
+}
+
+fn with_transfer(d: Driver, t: Transfer) -> Driver
+    ensures { λ r. ⌜ r ≡ withTransfer d t ⌝ }
+{
+    let pipes = d.pipes;
+    let last = d.last;
+    Driver {
+        transfer: t,
+        pipes: pipes,
+        last: last,
+    }
+}
+
+impl Driver {
+    pub fn new() -> Driver
+        ensures { λ r. ⌜ r ≡ fresh ⌝ }
+    {
+        Driver {
+            transfer: Transfer::Idle,
+            pipes: fresh_pipes(),
+            last: DeviceStatus::Absent,
+        }
+    }
+
+    // `control_transfer` up to its first poll. The buffer is the one to be filled or sent; None has no use for it.
+    pub fn begin_control(
+        mut self,
+        address: u8,
+        extras: TransferExtras,
+        size: u8,
+        setup: SetupPacket,
+        phase: DataPhase,
+        buf: &[u8],
+        pm: &[u8],
+        log: &mut [u32],
+    ) -> Begun
+        ensures { λ r. ⌜ DidBegin self (beginControlOf (self .transfer) address extras size setup phase (now (buf .entry)) (now (pm .entry)) (now (log .entry))) (now (log .entry)) r (now (pm .entry)) (now (log .exit)) ⌝ }
+    {
+        let t = self.transfer;
+        let b = crate::begin::begin_control(t, address, extras, size, setup, phase, buf, pm, log);
+        let next = b.next;
+        let answer = b.answer;
+        let armed = b.armed;
+        self = with_transfer(self, next);
+        Begun {
+            next: self,
+            answer: answer,
+            armed: armed,
+            writes: b.writes,
+        }
+    }
+
+    // `bulk_in_transfer` up to its first poll.
+    pub fn begin_bulk_in(
+        mut self,
+        address: u8,
+        endpoint: u8,
+        size: u16,
+        kind: TransferType,
+        toggle: bool,
+        buf: &[u8],
+        pm: &[u8],
+        log: &mut [u32],
+    ) -> Begun
+        ensures { λ r. ⌜ DidBegin self (beginBulkInOf (self .transfer) address endpoint size kind toggle (now (buf .entry)) (now (pm .entry)) (now (log .entry))) (now (log .entry)) r (now (pm .entry)) (now (log .exit)) ⌝ }
+    {
+        let t = self.transfer;
+        let b = crate::begin::begin_bulk_in(t, address, endpoint, size, kind, toggle, buf, pm, log);
+        let next = b.next;
+        let answer = b.answer;
+        let armed = b.armed;
+        self = with_transfer(self, next);
+        Begun {
+            next: self,
+            answer: answer,
+            armed: armed,
+            writes: b.writes,
+        }
+    }
+
+    // `bulk_out_transfer` up to its first poll.
+    pub fn begin_bulk_out(
+        mut self,
+        address: u8,
+        endpoint: u8,
+        size: u16,
+        kind: TransferType,
+        toggle: bool,
+        buf: &[u8],
+        pm: &mut [u8],
+        log: &mut [u32],
+    ) -> Begun
+        ensures { λ r. ⌜ DidBegin self (beginBulkOutOf (self .transfer) address endpoint size kind toggle (now (buf .entry)) (now (pm .entry)) (now (log .entry))) (now (log .entry)) r (now (pm .exit)) (now (log .exit)) ⌝ }
+    {
+        let t = self.transfer;
+        let b = crate::begin::begin_bulk_out(
+            t,
+            address,
+            endpoint,
+            size,
+            kind,
+            toggle,
+            buf,
+            pm,
+            log,
+        );
+        let next = b.next;
+        let answer = b.answer;
+        let armed = b.armed;
+        self = with_transfer(self, next);
+        Begun {
+            next: self,
+            answer: answer,
+            armed: armed,
+            writes: b.writes,
+        }
+    }
+
+    // A step of bulk IN, control In or None: the buffer is filled.
+    pub fn step_in(
+        mut self,
+        sample: Sample,
+        buf: &mut [u8],
+        pm: &mut [u8],
+        log: &mut [u32],
+    ) -> Stepped
+        ensures { λ r. ⌜ DidStep self (stepOf true (self .transfer) sample (now (buf .entry)) (now (pm .entry)) (now (log .entry))) (now (log .entry)) r (now (pm .exit)) (now (log .exit))
+            × (now (buf .exit) ≡ stepOf true (self .transfer) sample (now (buf .entry)) (now (pm .entry)) (now (log .entry)) .buffer) ⌝ }
+    {
+        let t = self.transfer;
+        let p = crate::step::step_in(t, sample, buf, pm, log);
+        let next = p.next;
+        let answer = p.answer;
+        let armed = p.armed;
+        self = with_transfer(self, next);
+        Stepped {
+            next: self,
+            answer: answer,
+            toggle: p.toggle,
+            armed: armed,
+            writes: p.writes,
+        }
+    }
+
+    // A step of bulk OUT or control Out: the buffer is sent.
+    pub fn step_out(mut self, sample: Sample, buf: &[u8], pm: &mut [u8], log: &mut [u32]) -> Stepped
+        ensures { λ r. ⌜ DidStep self (stepOf false (self .transfer) sample (now (buf .entry)) (now (pm .entry)) (now (log .entry))) (now (log .entry)) r (now (pm .exit)) (now (log .exit)) ⌝ }
+    {
+        let t = self.transfer;
+        let p = crate::step::step_out(t, sample, buf, pm, log);
+        let next = p.next;
+        let answer = p.answer;
+        let armed = p.armed;
+        self = with_transfer(self, next);
+        Stepped {
+            next: self,
+            answer: answer,
+            toggle: p.toggle,
+            armed: armed,
+            writes: p.writes,
+        }
+    }
+
+    // The Rust's dropping the future.
+    pub fn cancel(mut self) -> Dropped
+        ensures { λ r. ⌜ r ≡ dropped self (cancelOf (self .transfer)) ⌝ }
+    {
+        let t = self.transfer;
+        let c = crate::begin::cancel(t);
+        let next = c.next;
+        let answer = c.answer;
+        self = with_transfer(self, next);
+        Dropped {
+            next: self,
+            answer: answer,
+            toggle: c.toggle,
+        }
+    }
+}

@@ -1,0 +1,169 @@
+//! Scripts of refused calls and limits.
+
+use super::{Generator, UnderWay};
+use crate::script::Way;
+use std::io::{self, Write};
+
+impl<W: Write> Generator<W> {
+    pub fn edge(&mut self) -> io::Result<()> {
+        let under_way = self.under_way.unwrap_or(UnderWay {
+            way: self.rng.pick(&[Way::In, Way::Out]),
+            size: 8,
+            length: 0,
+        });
+        match self.rng.below(600) {
+            0 if self.rng.once_in(10) => self.long_transfers(),
+            0..10 => self.full_pool(),
+            10..40 => self.short_loan(),
+            40..60 => self.line("cancel"),
+            60..110 => self.any_open(),
+            110..150 => {
+                let pipe = self.any_pipe();
+                self.line(&format!("close {pipe}"))
+            }
+            150..220 => {
+                let pipe = self.any_pipe();
+                self.poll(pipe)
+            }
+            220..240 => self.irq(),
+            240..260 => self.detect(),
+            260..280 => self.any_packet_memory(),
+            280..320 => self.own_buffer(under_way),
+            320..460 => self.any_begin(),
+            _ => self.wild_step(under_way),
+        }
+    }
+
+    /// A good value, or one at or past a limit.
+    fn address(&mut self) -> u64 {
+        match self.rng.below(3) {
+            0 => self.rng.pick(&[0, 1, 126, 127, 128, 129, 255]),
+            _ => self.rng.below(128),
+        }
+    }
+
+    fn endpoint(&mut self) -> u64 {
+        match self.rng.below(3) {
+            0 => self.rng.pick(&[0, 1, 14, 15, 16, 17, 128, 255]),
+            _ => 1 + self.rng.below(15),
+        }
+    }
+
+    fn any_size(&mut self) -> u64 {
+        match self.rng.below(3) {
+            0 => self
+                .rng
+                .pick(&[0, 1, 63, 64, 65, 128, 255, 256, 257, 320, 65_535]),
+            _ => self.size(),
+        }
+    }
+
+    fn any_length(&mut self, size: u64) -> u64 {
+        match self.rng.below(4) {
+            0 => self
+                .rng
+                .pick(&[65_534, 65_535, 65_536, 65_537, 65_600, 131_071, 131_072]),
+            _ => self.length(size.clamp(1, 64)),
+        }
+    }
+
+    fn any_pipe(&mut self) -> u64 {
+        match self.rng.below(3) {
+            0 => self.rng.pick(&[0, 1, 14, 15, 16, 17, 31, 32, 33, 255]),
+            _ => 1 + self.rng.below(15),
+        }
+    }
+
+    fn any_begin(&mut self) -> io::Result<()> {
+        let (address, endpoint, size) =
+            (self.address(), self.endpoint(), self.any_size());
+        let length = self.any_length(size);
+        let bit = self.rng.below(2);
+        let kind = self.rng.pick(&["fixed", "variable"]);
+        // wLength may be anything; a control's buffer too.
+        let asked = self.any_length(size).min(65_535);
+        let (setup, small) = (self.setup(asked), size.min(255));
+        let text = match self.rng.below(5) {
+            0 => format!("control-in {address} {bit} {small} {setup} {length}"),
+            1 => {
+                let bytes = self.bytes(length);
+                format!("control-out {address} {bit} {small} {setup} {bytes}")
+            }
+            2 => format!("control-none {address} {bit} {small} {setup}"),
+            3 => format!("bulk-in {address} {endpoint} {size} {kind} {bit} {length}"),
+            _ => {
+                let bytes = self.bytes(length);
+                format!("bulk-out {address} {endpoint} {size} {kind} {bit} {bytes}")
+            }
+        };
+        self.line(&text)
+    }
+
+    fn any_open(&mut self) -> io::Result<()> {
+        let (address, endpoint, size) =
+            (self.address(), self.endpoint(), self.any_size());
+        let preamble = self.rng.below(2);
+        let interval = self.rng.pick(&[0, 1, 8, 9, 10, 11, 254, 255]);
+        self.line(&format!(
+            "open {address} {preamble} {endpoint} {size} {interval}"
+        ))
+    }
+
+    /// Opens until the pool is full and beyond, then closes some.
+    fn full_pool(&mut self) -> io::Result<()> {
+        for _ in 0..17 {
+            self.sound_open()?;
+        }
+        for pipe in 1..=15 {
+            if self.rng.bit() {
+                self.line(&format!("close {pipe}"))?;
+            }
+        }
+        Ok(())
+    }
+
+    /// A few calls that are lent too little.
+    fn short_loan(&mut self) -> io::Result<()> {
+        let packet_memory = self.rng.pick(&[0, 1, 4095, 4096, 4096]);
+        let log = self.rng.pick(&[0, 1, 54, 191, 192, 192]);
+        self.line(&format!("lend {packet_memory} {log}"))?;
+        for _ in 0..self.rng.below(6) {
+            match self.rng.below(4) {
+                0 => self.any_begin()?,
+                1 => self.any_open()?,
+                2 => self.side_call()?,
+                _ => {
+                    let way = self.rng.pick(&[Way::In, Way::Out]);
+                    self.step(way, 0, 8, 0)?;
+                }
+            }
+        }
+        self.line("lend 4096 192")
+    }
+
+    /// The longest transfers, with a sound device; two OUTs fill the record.
+    fn long_transfers(&mut self) -> io::Result<()> {
+        if self.under_way.is_some() {
+            self.line("cancel")?;
+        }
+        for _ in 0..self.rng.pick(&[1, 2, 3]) {
+            let kind = self.rng.pick(&["fixed", "variable"]);
+            let text = match self.rng.below(6) {
+                0 => "control-in 127 0 64 800600010000ffff 65535".to_string(),
+                1 => "control-out 127 0 64 210900000000ffff seq:65536:0:1".to_string(),
+                2 => format!("bulk-in 127 15 64 {kind} 1 65535"),
+                3 => format!("bulk-in 127 15 64 {kind} 0 65472"),
+                4 => format!("bulk-out 127 15 64 {kind} 1 seq:65535:0:1"),
+                _ => format!("bulk-out 127 15 64 {kind} 0 seq:65472:0:1"),
+            };
+            self.line(&text)?;
+            while let Some(under_way) = self.under_way {
+                let (sie_status, intr) = self.device_acts(10_000)?;
+                let buffer_control = self.bus.buffer_control;
+                self.step(under_way.way, sie_status, intr, buffer_control)?;
+            }
+            self.line("record")?;
+        }
+        Ok(())
+    }
+}

@@ -1,0 +1,122 @@
+//! The oracle: the Rust of cotton-usb-host, run over a memory stand-in. It reads a
+//! replay script and prints what each call answers, writes and arms. docs/ORACLE.md.
+
+mod driver;
+mod generate;
+mod lent_buffer;
+mod print;
+mod record;
+mod rng;
+mod rules;
+mod runs;
+mod script;
+mod session;
+mod standins;
+mod transfer;
+
+// The Rust, as build.rs left it. It finds its own crates' names among the stand-ins.
+
+use standins::debug;
+
+#[allow(dead_code)]
+mod bitset {
+    include!(concat!(env!("OUT_DIR"), "/bitset.rs"));
+}
+
+#[allow(dead_code)]
+mod async_pool {
+    include!(concat!(env!("OUT_DIR"), "/async_pool.rs"));
+}
+
+#[allow(dead_code)]
+mod host_controller {
+    use crate::standins::futures;
+    include!(concat!(env!("OUT_DIR"), "/host_controller.rs"));
+}
+
+#[allow(dead_code, unused_variables)]
+mod wire {
+    use crate::standins::bytemuck;
+    include!(concat!(env!("OUT_DIR"), "/wire.rs"));
+}
+
+#[allow(dead_code, unused_variables, clippy::all)]
+mod rp2040 {
+    use crate::standins::memory::dpram_address;
+    use crate::standins::{cortex_m, defmt, futures, gate, rp2040_pac, rtic_common};
+    include!(concat!(env!("OUT_DIR"), "/rp2040.rs"));
+
+    /// What the oracle reads of the Rust's private fields; it changes none.
+    pub mod view {
+        use super::{Rp2040InterruptPipe, UsbShared};
+
+        pub fn pipe_number(pipe: &Rp2040InterruptPipe) -> u8 {
+            pipe.pipe.which()
+        }
+
+        /// The set of pipes, and whether detection, woken since this was last asked.
+        pub fn take_woken(shared: &UsbShared) -> (u16, bool) {
+            let mut pipes = 0;
+            for (n, waker) in shared.pipe_wakers.iter().enumerate() {
+                pipes |= u16::from(waker.take_woken()) << n;
+            }
+            (pipes, shared.device_waker.take_woken())
+        }
+    }
+}
+
+use std::io::{self, BufRead, Write};
+use std::process::ExitCode;
+
+const USAGE: &str = "usage: oracle < SCRIPT
+       oracle gen SEED CALLS well|hostile|edge";
+
+fn main() -> ExitCode {
+    let arguments: Vec<String> = std::env::args().skip(1).collect();
+    let arguments: Vec<&str> = arguments.iter().map(String::as_str).collect();
+    let done = match arguments[..] {
+        [] => replay(io::stdin().lock(), io::BufWriter::new(io::stdout().lock())),
+        ["gen", seed, calls, kind] => {
+            let (Ok(seed), Ok(calls), Some(kind)) =
+                (seed.parse(), calls.parse(), generate::Kind::named(kind))
+            else {
+                eprintln!("{USAGE}");
+                return ExitCode::from(2);
+            };
+            let out = io::BufWriter::new(io::stdout().lock());
+            generate::generate(seed, calls, kind, out)
+        }
+        _ => {
+            eprintln!("{USAGE}");
+            return ExitCode::from(2);
+        }
+    };
+    match done {
+        Ok(()) => ExitCode::SUCCESS,
+        Err(error) => {
+            eprintln!("oracle: {error}");
+            ExitCode::FAILURE
+        }
+    }
+}
+
+/// Plays a script line by line.
+fn replay(mut script: impl BufRead, mut out: impl Write) -> io::Result<()> {
+    let mut session = session::Session::new();
+    let mut line = Vec::new();
+    for number in 1u64.. {
+        line.clear();
+        if script.read_until(b'\n', &mut line)? == 0 {
+            break;
+        }
+        if line.last() == Some(&b'\n') {
+            line.pop();
+        }
+        match script::parse(&line) {
+            Ok(None) => {}
+            Ok(Some(call)) => print::block(&mut out, &session.play(call))?,
+            Err(wrong) => print::unreadable(&mut out, number, &wrong)?,
+        }
+    }
+    out.flush()
+}

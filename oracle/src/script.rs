@@ -1,0 +1,455 @@
+//! The replay script's lines.
+
+const LONGEST: u64 = 131_072;
+const PACKET_MEMORY: u64 = 4096;
+const LOG: u64 = 192;
+
+#[derive(Clone, Debug, PartialEq, Eq)]
+pub enum Line {
+    Fresh,
+    Lend { packet_memory: usize, log: usize },
+    PacketMemory { offset: usize, bytes: Vec<u8> },
+    Begin(Begin),
+    Buffer(Vec<u8>),
+    Step(Step),
+    Cancel,
+    Open(Open),
+    Close(u8),
+    Poll(Poll),
+    Irq { ints: u32, buff_status: u32 },
+    Detect { sie_status: u32 },
+    Record,
+}
+
+#[derive(Clone, Debug, PartialEq, Eq)]
+pub enum Begin {
+    Control {
+        address: u8,
+        preamble: bool,
+        size: u8,
+        setup: [u8; 8],
+        data: Data,
+    },
+    Bulk {
+        address: u8,
+        endpoint: u8,
+        size: u16,
+        variable: bool,
+        toggle: bool,
+        data: Data,
+    },
+}
+
+/// The buffer of a begin; an IN's is all 0 at first. Only a control has `None`.
+#[derive(Clone, Debug, PartialEq, Eq)]
+pub enum Data {
+    In(usize),
+    Out(Vec<u8>),
+    None,
+}
+
+impl Begin {
+    pub fn data(&self) -> &Data {
+        match self {
+            Begin::Control { data, .. } | Begin::Bulk { data, .. } => data,
+        }
+    }
+
+    pub fn size(&self) -> u16 {
+        match self {
+            Begin::Control { size, .. } => (*size).into(),
+            Begin::Bulk { size, .. } => *size,
+        }
+    }
+}
+
+impl Data {
+    pub fn length(&self) -> usize {
+        match self {
+            Data::In(length) => *length,
+            Data::Out(bytes) => bytes.len(),
+            Data::None => 0,
+        }
+    }
+
+    /// The step that serves it.
+    pub fn way(&self) -> Way {
+        match self {
+            Data::In(_) | Data::None => Way::In,
+            Data::Out(_) => Way::Out,
+        }
+    }
+}
+
+#[derive(Clone, Copy, Debug, PartialEq, Eq)]
+pub enum Way {
+    In,
+    Out,
+}
+
+#[derive(Clone, Copy, Debug, PartialEq, Eq)]
+pub struct Step {
+    pub way: Way,
+    pub sie_status: u32,
+    pub intr: u32,
+    pub buffer_control: u32,
+}
+
+#[derive(Clone, Copy, Debug, PartialEq, Eq)]
+pub struct Open {
+    pub address: u8,
+    pub preamble: bool,
+    pub endpoint: u8,
+    pub size: u16,
+    pub interval: u8,
+}
+
+#[derive(Clone, Copy, Debug, PartialEq, Eq)]
+pub struct Poll {
+    pub pipe: u8,
+    pub buffer_control: u32,
+    pub host_addr_endp: u32,
+}
+
+/// A line without its LF: what it asks for, nothing if it is skipped, or what is wrong.
+pub fn parse(line: &[u8]) -> Result<Option<Line>, String> {
+    if line.is_empty() || line[0] == b'#' {
+        return Ok(None);
+    }
+    let line = std::str::from_utf8(line).map_err(|_| "not plain text")?;
+    let mut fields = Fields(line.split(' '));
+    let call = fields.line()?;
+    match fields.0.next() {
+        None => Ok(Some(call)),
+        Some(_) => Err("too many fields".to_string()),
+    }
+}
+
+struct Fields<'a>(std::str::Split<'a, char>);
+
+impl<'a> Fields<'a> {
+    fn line(&mut self) -> Result<Line, String> {
+        Ok(match self.word()? {
+            "fresh" => Line::Fresh,
+            "lend" => Line::Lend {
+                packet_memory: self.number("PMLEN", PACKET_MEMORY)? as usize,
+                log: self.number("LOGLEN", LOG)? as usize,
+            },
+            "pm" => self.packet_memory()?,
+            "control-in" => self.control(|fields| Ok(Data::In(fields.length()?)))?,
+            "control-out" => self.control(|fields| Ok(Data::Out(fields.bytes()?)))?,
+            "control-none" => self.control(|_| Ok(Data::None))?,
+            "bulk-in" => self.bulk(|fields| Ok(Data::In(fields.length()?)))?,
+            "bulk-out" => self.bulk(|fields| Ok(Data::Out(fields.bytes()?)))?,
+            "buffer" => Line::Buffer(self.bytes()?),
+            "step-in" => self.step(Way::In)?,
+            "step-out" => self.step(Way::Out)?,
+            "cancel" => Line::Cancel,
+            "open" => Line::Open(Open {
+                address: self.byte("ADDRESS")?,
+                preamble: self.bit("PREAMBLE")?,
+                endpoint: self.byte("ENDPOINT")?,
+                size: self.size()?,
+                interval: self.byte("INTERVAL")?,
+            }),
+            "close" => Line::Close(self.byte("PIPE")?),
+            "poll" => Line::Poll(Poll {
+                pipe: self.byte("PIPE")?,
+                buffer_control: self.register("EP_BUFFER_CONTROL")?,
+                host_addr_endp: self.register("HOST_ADDR_ENDP")?,
+            }),
+            "irq" => Line::Irq {
+                ints: self.register("INTS")?,
+                buff_status: self.register("BUFF_STATUS")?,
+            },
+            "detect" => Line::Detect {
+                sie_status: self.register("SIE_STATUS")?,
+            },
+            "record" => Line::Record,
+            word => return Err(format!("no call '{word}'")),
+        })
+    }
+
+    fn packet_memory(&mut self) -> Result<Line, String> {
+        let offset = self.number("OFFSET", PACKET_MEMORY)?;
+        let bytes = self.bytes()?;
+        if offset + bytes.len() as u64 > PACKET_MEMORY {
+            return Err("past packet memory".to_string());
+        }
+        Ok(Line::PacketMemory {
+            offset: offset as usize,
+            bytes,
+        })
+    }
+
+    fn control(
+        &mut self,
+        data: impl Fn(&mut Self) -> Result<Data, String>,
+    ) -> Result<Line, String> {
+        Ok(Line::Begin(Begin::Control {
+            address: self.byte("ADDRESS")?,
+            preamble: self.bit("PREAMBLE")?,
+            size: self.byte("SIZE")?,
+            setup: hexadecimal(self.word()?)
+                .and_then(|bytes| bytes.try_into().ok())
+                .ok_or("SETUP is not 8 bytes")?,
+            data: data(self)?,
+        }))
+    }
+
+    fn bulk(
+        &mut self,
+        data: impl Fn(&mut Self) -> Result<Data, String>,
+    ) -> Result<Line, String> {
+        Ok(Line::Begin(Begin::Bulk {
+            address: self.byte("ADDRESS")?,
+            endpoint: self.byte("ENDPOINT")?,
+            size: self.size()?,
+            variable: match self.word()? {
+                "fixed" => false,
+                "variable" => true,
+                word => return Err(format!("no TYPE '{word}'")),
+            },
+            toggle: self.bit("TOGGLE")?,
+            data: data(self)?,
+        }))
+    }
+
+    fn step(&mut self, way: Way) -> Result<Line, String> {
+        Ok(Line::Step(Step {
+            way,
+            sie_status: self.register("SIE_STATUS")?,
+            intr: self.register("INTR")?,
+            buffer_control: self.register("EP_BUFFER_CONTROL")?,
+        }))
+    }
+
+    fn word(&mut self) -> Result<&'a str, String> {
+        self.0.next().ok_or("too few fields".to_string())
+    }
+
+    fn number(&mut self, name: &str, most: u64) -> Result<u64, String> {
+        number(self.word()?, name, most)
+    }
+
+    fn byte(&mut self, name: &str) -> Result<u8, String> {
+        Ok(self.number(name, u8::MAX.into())? as u8)
+    }
+
+    fn size(&mut self) -> Result<u16, String> {
+        Ok(self.number("SIZE", u16::MAX.into())? as u16)
+    }
+
+    fn bit(&mut self, name: &str) -> Result<bool, String> {
+        Ok(self.number(name, 1)? == 1)
+    }
+
+    fn register(&mut self, name: &str) -> Result<u32, String> {
+        Ok(self.number(name, u32::MAX.into())? as u32)
+    }
+
+    fn length(&mut self) -> Result<usize, String> {
+        Ok(self.number("LEN", LONGEST)? as usize)
+    }
+
+    fn bytes(&mut self) -> Result<Vec<u8>, String> {
+        bytes(self.word()?)
+    }
+}
+
+fn number(word: &str, name: &str, most: u64) -> Result<u64, String> {
+    let (digits, base) = match word.strip_prefix("0x") {
+        Some(digits) => (digits, 16),
+        None => (word, 10),
+    };
+    if digits.is_empty() {
+        return Err(format!("{name} is no number"));
+    }
+    let mut value = 0u64;
+    for digit in digits.chars() {
+        let digit = digit
+            .to_digit(base)
+            .ok_or_else(|| format!("{name} is no number"))?;
+        value = value
+            .saturating_mul(base.into())
+            .saturating_add(digit.into());
+    }
+    if value > most {
+        return Err(format!("{name} is above {most}"));
+    }
+    Ok(value)
+}
+
+fn bytes(word: &str) -> Result<Vec<u8>, String> {
+    if word == "-" {
+        return Ok(Vec::new());
+    }
+    if let Some(sequence) = word.strip_prefix("seq:") {
+        return self::sequence(sequence);
+    }
+    match hexadecimal(word) {
+        Some(bytes) if bytes.len() as u64 > LONGEST => {
+            Err(format!("BYTES are more than {LONGEST}"))
+        }
+        Some(bytes) if !bytes.is_empty() => Ok(bytes),
+        _ => Err("BYTES are no hexadecimal pairs".to_string()),
+    }
+}
+
+fn sequence(word: &str) -> Result<Vec<u8>, String> {
+    let parts: Vec<&str> = word.split(':').collect();
+    let [length, start, step] = parts[..] else {
+        return Err("seq has not three numbers".to_string());
+    };
+    let length = number(length, "LEN", LONGEST)?;
+    let start = number(start, "START", u8::MAX.into())?;
+    let step = number(step, "STEP", u8::MAX.into())?;
+    Ok((0..length)
+        .map(|i| (start + step * i + i / 256) as u8)
+        .collect())
+}
+
+fn hexadecimal(word: &str) -> Option<Vec<u8>> {
+    let digits: Option<Vec<u8>> = word
+        .chars()
+        .map(|digit| digit.to_digit(16).map(|digit| digit as u8))
+        .collect();
+    let digits = digits?;
+    if digits.len() % 2 != 0 {
+        return None;
+    }
+    Some(
+        digits
+            .chunks(2)
+            .map(|pair| pair[0] << 4 | pair[1])
+            .collect(),
+    )
+}
+
+#[cfg(test)]
+mod tests {
+    use super::*;
+
+    fn read(line: &str) -> Line {
+        parse(line.as_bytes()).unwrap().unwrap()
+    }
+
+    fn wrong(line: &str) -> bool {
+        parse(line.as_bytes()).is_err()
+    }
+
+    #[test]
+    fn skips_empty_lines_and_comments() {
+        assert_eq!(parse(b""), Ok(None));
+        assert_eq!(parse(b"# fresh"), Ok(None));
+        assert!(wrong(" "));
+        assert!(wrong(" # fresh"));
+    }
+
+    #[test]
+    fn reads_numbers() {
+        assert_eq!(read("close 15"), Line::Close(15));
+        assert_eq!(read("close 0x0F"), Line::Close(15));
+        assert_eq!(
+            read("irq 0xffffffff 4294967295"),
+            Line::Irq {
+                ints: u32::MAX,
+                buff_status: u32::MAX
+            }
+        );
+        for line in [
+            "close",
+            "close ",
+            "close 0x",
+            "close -1",
+            "close +1",
+            "close 1a",
+            "close 256",
+            "close 1 ",
+            "close 1 2",
+            "close  1",
+            "close 0X1",
+            "irq 0x100000000 0",
+            "irq 0 99999999999999999999999",
+            "close 1\r",
+            "closed 1",
+        ] {
+            assert!(wrong(line), "{line}");
+        }
+    }
+
+    #[test]
+    fn reads_bytes() {
+        assert_eq!(read("buffer -"), Line::Buffer(vec![]));
+        assert_eq!(read("buffer aB01"), Line::Buffer(vec![0xab, 1]));
+        assert_eq!(read("buffer seq:3:254:1"), Line::Buffer(vec![254, 255, 0]));
+        assert_eq!(read("buffer seq:0:0:0"), Line::Buffer(vec![]));
+        let Line::Buffer(long) = read("buffer seq:131072:1:2") else {
+            panic!()
+        };
+        assert_eq!(long.len(), 131_072);
+        assert_eq!(long[256], (1 + 2 * 256 + 1) as u8);
+        for line in [
+            "buffer",
+            "buffer ",
+            "buffer a",
+            "buffer gg",
+            "buffer seq:131073:0:0",
+            "buffer seq:1:256:0",
+            "buffer seq:1:0:256",
+            "buffer seq:1:0",
+            "buffer seq:1:0:0:0",
+        ] {
+            assert!(wrong(line), "{line}");
+        }
+        assert!(wrong(&format!("buffer {}", "00".repeat(131_073))));
+        assert!(!wrong(&format!("buffer {}", "00".repeat(131_072))));
+    }
+
+    #[test]
+    fn reads_packet_memory_up_to_its_end() {
+        assert!(!wrong("pm 4095 00"));
+        assert!(!wrong("pm 4096 -"));
+        assert!(wrong("pm 4095 0000"));
+        assert!(wrong("pm 4097 -"));
+        assert!(wrong("lend 4097 0"));
+        assert!(wrong("lend 0 193"));
+    }
+
+    #[test]
+    fn reads_begins() {
+        assert_eq!(
+            read("control-out 1 0 8 2109000000000a00 00"),
+            Line::Begin(Begin::Control {
+                address: 1,
+                preamble: false,
+                size: 8,
+                setup: [0x21, 9, 0, 0, 0, 0, 10, 0],
+                data: Data::Out(vec![0]),
+            })
+        );
+        assert_eq!(
+            read("bulk-in 200 16 65535 variable 1 131072"),
+            Line::Begin(Begin::Bulk {
+                address: 200,
+                endpoint: 16,
+                size: 65535,
+                variable: true,
+                toggle: true,
+                data: Data::In(131_072),
+            })
+        );
+        for line in [
+            "control-in 1 0 8 2109000000000a 0",
+            "control-in 1 2 8 2109000000000a00 0",
+            "control-in 1 0 256 2109000000000a00 0",
+            "control-none 1 0 8 2109000000000a00 -",
+            "bulk-in 1 1 65536 fixed 0 0",
+            "bulk-in 1 1 8 Fixed 0 0",
+            "bulk-in 1 1 8 fixed 0 131073",
+            "bulk-out 1 1 8 fixed 0",
+        ] {
+            assert!(wrong(line), "{line}");
+        }
+    }
+}

@@ -1,0 +1,128 @@
+//! Plays the lines of a script on a driver.
+
+use crate::driver::{Answer, Driver};
+use crate::record::{Entry, Record, Registers};
+use crate::rules::Lent;
+use crate::runs::{self, Run};
+use crate::script::Line;
+use crate::standins::memory::{self, Write};
+
+/// Everything that came of one line.
+pub enum Block {
+    Call(Report),
+    Record(Result<Vec<u8>, u8>),
+}
+
+pub struct Report {
+    pub answer: Answer,
+    pub log: Vec<Write>,
+    pub armed: Vec<Entry>,
+    pub packet_memory: Vec<Run>,
+    pub buffer: Vec<Run>,
+}
+
+impl Report {
+    fn ok() -> Self {
+        Self {
+            answer: Answer::Ok,
+            log: Vec::new(),
+            armed: Vec::new(),
+            packet_memory: Vec::new(),
+            buffer: Vec::new(),
+        }
+    }
+}
+
+pub struct Session {
+    driver: Driver,
+    lent: Lent,
+    /// The bytes lent to the next step alone.
+    next_buffer: Option<Vec<u8>>,
+    /// The registers as the logs leave them.
+    registers: Registers,
+    record: Record,
+}
+
+impl Session {
+    pub fn new() -> Self {
+        Self {
+            driver: Driver::fresh(),
+            lent: Lent::whole(),
+            next_buffer: None,
+            registers: Registers::default(),
+            record: Record::new(),
+        }
+    }
+
+    pub fn play(&mut self, line: Line) -> Block {
+        let lent = self.lent;
+        Block::Call(match line {
+            Line::Record => {
+                return Block::Record(self.record.bytes().map(<[u8]>::to_vec));
+            }
+            Line::Fresh => {
+                *self = Self::new();
+                Report::ok()
+            }
+            Line::Lend { packet_memory, log } => {
+                self.lent = Lent { packet_memory, log };
+                Report::ok()
+            }
+            Line::PacketMemory { offset, bytes } => {
+                memory::hardware_wrote(offset, &bytes);
+                Report::ok()
+            }
+            Line::Buffer(bytes) => {
+                self.next_buffer = Some(bytes);
+                Report::ok()
+            }
+            Line::Step(step) => {
+                let own = self.next_buffer.take();
+                self.call(|driver| driver.step(lent, &step, own.as_deref()))
+            }
+            Line::Begin(begin) => self.plain_call(|driver| driver.begin(lent, &begin)),
+            Line::Cancel => self.plain_call(Driver::cancel),
+            Line::Open(open) => self.plain_call(|driver| driver.open(lent, &open)),
+            Line::Close(pipe) => self.plain_call(|driver| driver.close(pipe)),
+            Line::Poll(poll) => self.plain_call(|driver| driver.poll(lent, &poll)),
+            Line::Irq { ints, buff_status } => {
+                self.plain_call(|driver| driver.irq(lent, ints, buff_status))
+            }
+            Line::Detect { sie_status } => {
+                self.plain_call(|driver| driver.detect(lent, sie_status))
+            }
+        })
+    }
+
+    fn plain_call(
+        &mut self,
+        call: impl FnOnce(&mut Driver) -> Result<Answer, u8>,
+    ) -> Report {
+        self.call(|driver| Ok((call(driver)?, Vec::new())))
+    }
+
+    fn call(
+        &mut self,
+        call: impl FnOnce(&mut Driver) -> Result<(Answer, Vec<Run>), u8>,
+    ) -> Report {
+        let before = memory::packet_memory();
+        let (answer, buffer) = call(&mut self.driver)
+            .unwrap_or_else(|number| (Answer::Refused(number), Vec::new()));
+        let log = memory::take_log();
+        let after = memory::packet_memory();
+        let armed = self.registers.armed(&log, &after);
+        self.record.append(&armed);
+        Report {
+            answer,
+            log,
+            armed,
+            packet_memory: runs::changed(&before, &after),
+            buffer,
+        }
+    }
+
+    /// A register as the logs so far leave it.
+    pub fn register(&self, register: u32) -> u32 {
+        self.registers.get(register)
+    }
+}

@@ -1,0 +1,92 @@
+//! Plays the scripts beside this file; the output must be the expected one, byte for
+//! byte.
+
+use std::fs::{self, File};
+use std::path::{Path, PathBuf};
+use std::process::{Command, Output};
+
+fn scripts() -> PathBuf {
+    Path::new(env!("CARGO_MANIFEST_DIR")).join("tests/scripts")
+}
+
+fn oracle(arguments: &[&str], script: &Path) -> Output {
+    Command::new(env!("CARGO_BIN_EXE_oracle"))
+        .args(arguments)
+        .stdin(File::open(script).unwrap())
+        .output()
+        .unwrap()
+}
+
+fn check(name: &str) {
+    let output = oracle(&[], &scripts().join(name).with_extension("script"));
+    let expected = scripts().join(name).with_extension("expected");
+    assert!(output.status.success());
+    assert_eq!(
+        String::from_utf8(output.stdout).unwrap(),
+        fs::read_to_string(expected).unwrap()
+    );
+}
+
+/// Bulk OUT of 65 bytes at 64: begin's log, packets and record.
+#[test]
+fn golden() {
+    check("golden");
+}
+
+/// The table that document 01 wants proved, and what it wants run.
+#[test]
+fn table() {
+    check("table");
+}
+
+#[test]
+fn control_transfers() {
+    check("control");
+}
+
+#[test]
+fn pipes_interrupts_and_detection() {
+    check("pipes");
+}
+
+/// The smallest scripts of docs/ORACLE.md.
+#[test]
+fn where_document_01_decides() {
+    check("decided");
+}
+
+#[test]
+fn lending() {
+    check("lending");
+}
+
+#[test]
+fn unreadable_lines() {
+    check("unreadable");
+}
+
+/// A last line without LF is a line.
+#[test]
+fn last_line_without_end() {
+    let script = std::env::temp_dir().join(format!("oracle-{}", std::process::id()));
+    fs::write(&script, "close 1\nclose 1").unwrap();
+    let output = oracle(&[], &script);
+    fs::remove_file(&script).unwrap();
+    assert_eq!(
+        output.stdout,
+        b"answer refused 17\n.\nanswer refused 17\n.\n"
+    );
+}
+
+#[test]
+fn bad_arguments_are_refused() {
+    let script = scripts().join("golden.script");
+    for arguments in [
+        &["gen"][..],
+        &["gen", "1", "1", "worse"],
+        &["gen", "x", "1", "well"],
+        &["play"],
+    ] {
+        assert_eq!(oracle(arguments, &script).status.code(), Some(2));
+    }
+}
