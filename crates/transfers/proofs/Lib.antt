@@ -5,7 +5,9 @@ pub mod Counts
 pub mod Armings
 pub mod Telling
 pub mod Steps
+pub mod SlotsOnly
 pub mod Readiness
+pub mod WellFormed
 pub mod Beginnings
 pub mod WokenPipes
 pub mod Statuses

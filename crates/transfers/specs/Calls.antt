@@ -83,6 +83,11 @@ unfoldable pub cancelOf : Transfer → Cancelling
 cancelOf Idle = cancelIf false Idle false
 cancelOf (Busy r) = cancelIf (eitherServes r) (Busy r) (toggleIn (r .request .kind))
 
+-- A state that the calls leave: nothing under way, or a transfer that one of them serves.
+abbrev pub wellFormed : Transfer → Bool
+wellFormed Idle = true
+wellFormed (Busy r) = eitherServes r
+
 -- ---- begin
 
 pub record Beginning : Type 0 where

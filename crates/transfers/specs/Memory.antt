@@ -1,8 +1,9 @@
 -- Packet memory: "Packet memory is lent as 4,096 bytes. Sending copies the part of the caller's buffer from the offset on into a slot."
+use mathlib.Core.Path.{_≡_}
 use mathlib.Core.Bool.{Bool, true, false, _&&_}
 use mathlib.Core.List.{List}
 use Prim.Native.Nat.{ℕ}
-use lib.ListN.{length}
+use lib.ListN.{length, take, drop}
 use lib.Dec.{eqb, leb}
 
 -- "15 packet memory not 4,096 bytes, or log below 192 words"
@@ -19,3 +20,8 @@ lentFits pm log = memoryFits pm && logFits log
 abbrev pub slotAddress : Bool → ℕ
 slotAddress false = 0x180
 slotAddress true = 0x1C0
+
+-- "The driver stores only in 0x180 to 0x1FF": all other bytes stay.
+pub record SlotsOnly (m m′ : List ℕ) : Type 0 where
+  pub below : take 0x180 m′ ≡ take 0x180 m
+  pub above : drop 0x200 m′ ≡ drop 0x200 m
