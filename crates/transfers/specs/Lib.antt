@@ -1,3 +1,4 @@
+-- What a reader has to believe, in reading order.
 pub mod Refusal
 pub mod Registers
 pub mod Masks
@@ -7,20 +8,21 @@ pub mod Sample
 pub mod Writes
 pub mod Arming
 pub mod Retiring
-pub mod Arms
 pub mod Answers
 pub mod State
 pub mod Outcome
-pub mod Starts
-pub mod Acts
 pub mod Step
 pub mod Calls
-pub mod Ready
-pub mod Begins
 pub mod Pipes
-pub mod Isolation
-pub mod Apart
-pub mod PipeRows
 pub mod Irq
 pub mod Detect
 pub mod Driver
+pub mod Isolation
+pub mod Apart
+pub mod PipeRows
+-- What the crate's own functions are held to.
+pub mod Arms
+pub mod Starts
+pub mod Acts
+pub mod Ready
+pub mod Begins
