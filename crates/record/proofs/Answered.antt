@@ -54,7 +54,8 @@ use Rattle.record.specs.Grammar.{Entry, out}
 use Rattle.record.specs.Wire.{File, performs, events, entryOf, wire}
 use Rattle.transfers.specs.Driver.{fresh}
 use Rattle.record.specs.Calls.{Begin, control, bulk, Call, begin, step, cancel, openPipe, closePipe, pollPipe, interrupt, detect, call, beginning}
-use Rattle.record.specs.Record.{recordFrom, entriesArmed, answeredFrom, Typed, AllTyped, TypedBegin}
+use Rattle.record.specs.Armed.{entriesArmed}
+use Rattle.record.specs.Record.{recordFrom, answeredFrom, Typed, AllTyped, TypedBegin}
 use Rattle.record.proofs.Logs.{Silent, silent-nil, silent-apart, silent-enable}
 use Rattle.record.proofs.Stages.{between, startLog, heads, in-two, out-two, armEvents}
 use Rattle.record.proofs.Begins.{requestOf, Checked, endpoint-small}

@@ -22,7 +22,8 @@ use Rattle.record.specs.Grammar.{Four, four, lengthIn, Bytes, FourBytes,
 use Rattle.record.specs.Wire.{File}
 use Rattle.transfers.specs.Driver.{fresh}
 use Rattle.record.specs.Calls.{control, bulk, Call}
-use Rattle.record.specs.Record.{setupEntry, Words, TypedSetup, Begun, outEntry, armedBy, begunFrom}
+use Rattle.record.specs.Armed.{setupEntry}
+use Rattle.record.specs.Record.{Words, TypedSetup, Begun, outEntry, armedBy, begunFrom}
 use Rattle.record.specs.Premises.{unarmed, PremisesFrom}
 use Rattle.record.specs.Term3.{ComesFrom}
 use Rattle.record.proofs.Cuts.{cutAt, cut-is, cut-more, cut-last}
@@ -158,7 +159,7 @@ module _ (m log : List ℕ) (fits : lentFits m log ≡ true) (mb : Bytes m) (lw 
   choose-sent : (a : ℕ) (lo hi : Four) (s : Sent) → a ≤ 127 → FourBytes lo → FourBytes hi → SentFits hi s → Choice (G.control a lo hi s)
   choose-sent a lo hi G.none h bl bh f = choose-none a lo hi h bl bh
   choose-sent a lo hi (G.some xs l) h bl bh (inl q) = choose-empty a lo hi h bl bh xs l (q .0) (q .1)
-  choose-sent a lo hi (G.some xs l) h bl bh (inr q) = choose-out a lo hi h bl bh xs l (q .0) (q .1) (q .2)
+  choose-sent a lo hi (G.some xs l) h bl bh (inr q) = choose-out a lo hi h bl bh xs l (q .0) (omega (arith, q .1)) (q .2)
 
   choose : (q : Part) → Fits q → Choice q
   choose (G.bulk a e b xs l) h = choose-bulk a e b xs l h

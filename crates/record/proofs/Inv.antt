@@ -1,5 +1,5 @@
 -- The invariant of a list of calls: the driver's state against the transfer under way and the entries that are still due. Assumes nothing.
-use mathlib.Core.Path.{_≡_, sym, ap, _∙_}
+use mathlib.Core.Path.{_≡_, refl, sym, ap, _∙_}
 use mathlib.Core.Bool.{Bool, true, false, cond}
 use mathlib.Core.List.{List, [], _++_, map, append-nil}
 use Prim.Native.Nat.{ℕ, _+_, _*_, _≤_}
@@ -136,7 +136,7 @@ pub record Kept (l : Live) (n : ℕ) (w : Watch) (f : File) (rest : List Entry) 
 
 pub wire-none : (f : File) (ws : List Write) (m : List ℕ) → events f ws ≡ [] → wire f ws m ≡ []
 unfolding wire
-wire-none f ws m e = ap (map (entryOf (performs f ws) m)) e
+wire-none f ws m e = rw e refl
 
 pub same-due : (f : File) (ws : List Write) (m : List ℕ) (rest : List Entry) → events f ws ≡ [] → rest ++ [] ≡ wire f ws m ++ rest
 same-due f ws m rest e = append-nil rest ∙ ap (λ (l : List Entry). l ++ rest) (sym (wire-none f ws m e))

@@ -17,4 +17,16 @@ pub mod Answered
 pub mod Sane
 pub mod Exists
 pub mod Comes
+pub mod Both
+pub mod Puts
+pub mod Encoding
+pub mod Automaton
+pub mod Looking
+pub mod Turns
+pub mod Decoding
+pub mod Verdicts
+pub mod Spans
+pub mod Handing
+pub mod Keeping
+pub mod ReadBack
 pub mod Term3

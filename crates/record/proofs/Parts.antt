@@ -21,7 +21,8 @@ use Rattle.transfers.specs.declared.wire.Direction.the-variants.{In, Out}
 use Rattle.record.specs.Grammar as G
 use Rattle.record.specs.Grammar.{lengthIn, FourBytes, Bytes, Entry, out, group, bytes, AllOf, Sizes, Part, entries, Fits, AllFit, written, Item, bulkItem, controlItem, item}
 use Rattle.record.specs.Calls.{Begin, control, bulk}
-use Rattle.record.specs.Record.{lowBytes, highBytes, setupEntry, TypedSetup, Begun, outEntry, armedBy, itemOf, listed}
+use Rattle.record.specs.Armed.{lowBytes, highBytes, setupEntry}
+use Rattle.record.specs.Record.{TypedSetup, Begun, outEntry, armedBy, itemOf, listed}
 use Rattle.record.proofs.Cuts.{cutAt, cut-is, cut-more, cut-last}
 use Rattle.record.proofs.Begins.{Checked, Proper, AllProper}
 
@@ -143,7 +144,7 @@ module _ (a : ℕ) (x : TransferExtras) (p : ℕ) (s : SetupPacket) (buf : List 
           high-are s (ck .kind),
           inr (
             sizes FixedSize p l h (ck .low) (ck .high) (omega arith) (bytes-take (s .wLength) buf by),
-            ap length (h .bytes-are) ∙ e ∙ sym (length-in s),
+            omega (arith, ap length (h .bytes-are), e, length-in s),
             h .some refl (omega arith),
           ),
         );

@@ -1,23 +1,17 @@
 -- Term 3's subjects: the wire record of a list of calls, the record as the answers tell it, and the transfers begun.
 use mathlib.Core.Bool.{true}
 use mathlib.Core.List.{List, [], _∷_, _++_, map}
-use Prim.Native.Nat.{ℕ, _/_, _%_, _<_}
-use lib.ListN.{take, drop}
+use Prim.Native.Nat.{ℕ, _<_}
+use lib.ListN.{take}
 use Rattle.cutting.specs.declared.transfer_type.TransferType.the-variants.{FixedSize}
 use Rattle.cutting.specs.Cut.{Packet, packet, outCut}
 use Rattle.transfers.specs.declared.host_controller.DataPhase.the-variants.{In as phaseIn, Out as phaseOut, None as phaseNone}
 use Rattle.transfers.specs.declared.wire.SetupPacket.{SetupPacket}
 use Rattle.transfers.specs.declared.wire.Direction.the-variants.{In, Out}
 use Rattle.transfers.specs.declared.sample.Sample.{Sample}
-use Rattle.transfers.specs.declared.answers.Armed.{Armed}
-use Rattle.transfers.specs.declared.answers.ArmedOut.{ArmedOut}
-use Rattle.transfers.specs.declared.answers.OptionSetup.{OptionSetup}
-use Rattle.transfers.specs.declared.answers.OptionSetup.the-variants.{Some as someSetup, None as noSetup}
-use Rattle.transfers.specs.declared.answers.OptionOut.{OptionOut}
-use Rattle.transfers.specs.declared.answers.OptionOut.the-variants.{Some as someOut, None as noOut}
 use Rattle.transfers.specs.declared.driver.Driver.{Driver}
-use Rattle.transfers.specs.Memory.{slotAddress}
-use Rattle.record.specs.Grammar.{Four, four, Entry, setup, out, Bytes, Item, bulkItem, controlItem}
+use Rattle.record.specs.Grammar.{Entry, out, Bytes, Item, bulkItem, controlItem}
+use Rattle.record.specs.Armed.{lowBytes, highBytes, setupEntry, entriesArmed}
 use Rattle.record.specs.Wire.{File, performs, wire}
 use Rattle.record.specs.Calls.{Begin, control, bulk, Call, begin, step, cancel, openPipe, closePipe, pollPipe, interrupt, detect, call, Note, began, stepped, cancelled, nothing, note}
 
@@ -27,36 +21,6 @@ use Rattle.record.specs.Calls.{Begin, control, bulk, Call, begin, step, 
 unfoldable pub recordFrom : File → Driver → List Call → List Entry
 recordFrom f d [] = []
 recordFrom f d (c ∷ cs) = let o = call d c in wire f (o .writes) (o .memory) ++ recordFrom (performs f (o .writes)) (o .next) cs
-
--- USB 2.0 table 9-2: the SETUP's eight bytes, low byte first.
-abbrev pub lowBytes : SetupPacket → Four
-lowBytes s = four (s .bmRequestType) (s .bRequest) (s .wValue % 256) (s .wValue / 256)
-
--- wIndex and wLength.
-abbrev pub highBytes : SetupPacket → Four
-highBytes s = four (s .wIndex % 256) (s .wIndex / 256) (s .wLength % 256) (s .wLength / 256)
-
--- The entry of a SETUP.
-abbrev pub setupEntry : ℕ → SetupPacket → Entry
-setupEntry a s = setup a (lowBytes s) (highBytes s)
-
--- "Begin and step also answer what they armed, at most one SETUP and two OUT packets": their entries, with the packet memory as that call left it.
-abbrev pub entryArmed : List ℕ → ArmedOut → Entry
-entryArmed m x = out (x .address) (x .endpoint) (x .arm .pid) (x .arm .last) (take (x .arm .length) (drop (slotAddress (x .arm .slot)) m))
-
--- The SETUP that was armed.
-abbrev pub setupsArmed : OptionSetup → List Entry
-setupsArmed noSetup = []
-setupsArmed (someSetup x) = setupEntry (x .address) (x .setup) ∷ []
-
--- An OUT packet that was armed.
-abbrev pub outsArmed : List ℕ → OptionOut → List Entry
-outsArmed m noOut = []
-outsArmed m (someOut x) = entryArmed m x ∷ []
-
--- All that a call says that it armed, in order.
-abbrev pub entriesArmed : List ℕ → Armed → List Entry
-entriesArmed m a = setupsArmed (a .setup) ++ (outsArmed m (a .first) ++ outsArmed m (a .second))
 
 -- The record as the answers of a list of calls tell it.
 unfoldable pub answeredFrom : Driver → List Call → List Entry

@@ -22,7 +22,7 @@ pub(crate) fn lent_fits(pm: &[u8], log: &[u32]) -> bool
 }
 
 // The address of a slot in packet memory.
-fn slot_address(slot: bool) -> usize
+pub fn slot_address(slot: bool) -> usize
     ensures { λ r. ⌜ r ≡ slotAddress slot ⌝ }
 {
     if slot { 0x1C0 } else { 0x180 }

@@ -1,0 +1,91 @@
+// A record's listing on standard output, as document 01 shows it.
+use libc::STDOUT_FILENO;
+use record::items::BulkItem;
+use record::items::ControlItem;
+use record::items::Cursor;
+use record::items::ItemAnswer;
+use record::items::first;
+use record::items::item;
+use record::reader::CheckAnswer;
+use record::reader::check;
+use record::refusal::Refusal;
+use record::refusal::number;
+
+// A space and a number.
+fn print_number(n: usize) {
+    io::write_all(STDOUT_FILENO, b" ");
+    io::print_decimal(STDOUT_FILENO, n as u64);
+}
+
+// The eight bytes of a SETUP.
+fn print_setup(s: &[u8], at: usize) {
+    if s.len() < at {
+        return;
+    }
+    let bytes = &s[at..];
+    if bytes.len() < 8 {
+        return;
+    }
+    for i in 0..8 {
+        io::print_hex(STDOUT_FILENO, bytes[i] as u64, 2);
+    }
+}
+
+fn print_control(s: &[u8], c: ControlItem) {
+    io::write_all(STDOUT_FILENO, b"control");
+    print_number(c.address as usize);
+    io::write_all(STDOUT_FILENO, b" ");
+    print_setup(s, c.setup);
+    print_number(c.count);
+    io::write_all(STDOUT_FILENO, b"\n");
+}
+
+fn print_bulk(b: BulkItem) {
+    io::write_all(STDOUT_FILENO, b"bulk");
+    print_number(b.address as usize);
+    print_number(b.endpoint as usize);
+    print_number(b.pid as usize);
+    print_number(b.count);
+    io::write_all(STDOUT_FILENO, b"\n");
+}
+
+fn print_item(s: &[u8], cursor: Cursor) -> Cursor {
+    let answer = item(s, cursor);
+    match answer {
+        ItemAnswer::Control(c) => {
+            print_control(s, c);
+            c.next
+        }
+        ItemAnswer::Bulk(b) => {
+            print_bulk(b);
+            b.next
+        }
+        ItemAnswer::End => cursor,
+    }
+}
+
+pub fn print_refusal(refusal: Refusal) {
+    io::write_all(STDOUT_FILENO, b"refused");
+    print_number(number(refusal) as usize);
+    io::write_all(STDOUT_FILENO, b"\n");
+}
+
+fn print_transfers(s: &[u8], count: usize) {
+    io::write_all(STDOUT_FILENO, b"WLG 1\n");
+    let mut cursor = first();
+    for _ in 0..count {
+        cursor = print_item(s, cursor);
+    }
+    io::write_all(STDOUT_FILENO, b"end");
+    print_number(count);
+    io::write_all(STDOUT_FILENO, b"\n");
+}
+
+// Lists a record's transfers, or says why it is refused.
+pub fn print_record(s: &[u8]) {
+    let answer = check(s);
+    match answer {
+        CheckAnswer::Refused(refusal) => print_refusal(refusal),
+        CheckAnswer::Transfers(count) => print_transfers(s, count),
+    }
+}

@@ -1,0 +1,137 @@
+-- Decoding an entry's encoding gives the entry, and encoding what was decoded gives the bytes back.
+-- Assumes nothing.
+use mathlib.Core.Path.{_≡_, refl, sym, ap, _∙_}
+use mathlib.Core.Bool.{Bool, true, false}
+use mathlib.Core.List.{List, [], _∷_, _++_}
+use Prim.Native.Nat.{ℕ, zero, suc, _+_, _*_, _-_, _≤_, _<_}
+use native.Mathlib.Omega.{arith}
+use lib.ListN.{length, take, drop, getD, length-append, take-append-drop, length-drop}
+use lib.Seq.{drop-cons, drop-drop, length-take-le, drop-append-seam}
+use lib.Dec.{eqb, leb}
+use borrow.Author.Tests.{ne-eqb, le-leb}
+use Rattle.record.specs.Grammar.{four, Entry, setup, out, lengthIn, Bytes}
+use Rattle.record.specs.Bytes.{bit, encode}
+use Rattle.record.specs.Scan.{feed, starts, InRange}
+use Rattle.record.specs.Reader.{lookSetup, fieldsFit, lookOut, look, goOn, turnLook, turnOf}
+use Rattle.record.specs.declared.look.Look.{Look}
+use Rattle.record.specs.declared.look.Look.the-variants.{Setup, Out}
+use Rattle.record.specs.declared.reader.Progress.{Progress}
+use Rattle.record.proofs.Looking.{OutFits}
+
+-- What the reader sees of an entry.
+abbrev pub lookOf : Entry → Look
+lookOf (setup a lo hi) = Setup a (lengthIn hi)
+lookOf (out a e b last l) = Out (record { address = a; endpoint = e; pid = b; last = last; length = length l })
+
+bit-is : (b : Bool) → eqb (bit b) 1 ≡ b
+bit-is true = refl
+bit-is false = refl
+
+bit-low : (b : Bool) → leb (bit b) 1 ≡ true
+bit-low true = refl
+bit-low false = refl
+
+fits : (a e : ℕ) (b last : Bool) (n : ℕ) → a ≤ 127 → e ≤ 15 → n ≤ 64 → fieldsFit a e (bit b) (bit last) n ≡ true
+unfolding fieldsFit
+fits a e b last n ha he hn = rw (le-leb a 127 ha, le-leb e 15 he, bit-low b, bit-low last, le-leb n 64 hn)
+
+see-setup : (a b0 b1 b2 b3 b4 b5 b6 b7 : ℕ) (post : List ℕ) → a ≤ 127
+    → look (0x53 ∷ a ∷ b0 ∷ b1 ∷ b2 ∷ b3 ∷ b4 ∷ b5 ∷ b6 ∷ b7 ∷ post) ≡ Setup a (b6 + b7 * 256)
+unfolding look lookSetup
+see-setup a b0 b1 b2 b3 b4 b5 b6 b7 post h =
+    let l : List ℕ = 0x53 ∷ a ∷ b0 ∷ b1 ∷ b2 ∷ b3 ∷ b4 ∷ b5 ∷ b6 ∷ b7 ∷ post in
+    rw (ne-eqb (length l) 0 (λ (z : length l ≡ 0). omega arith), le-leb 10 (length l) (omega arith), le-leb a 127 h)
+
+see-out : (a e : ℕ) (b last : Bool) (m post : List ℕ) → a ≤ 127 → e ≤ 15 → length m ≤ 64
+    → look (0x4F ∷ a ∷ e ∷ bit b ∷ bit last ∷ length m ∷ (m ++ post)) ≡ Out (record { address = a; endpoint = e; pid = b; last = last; length = length m })
+unfolding look lookOut
+see-out a e b last m post ha he hm =
+    let l : List ℕ = 0x4F ∷ a ∷ e ∷ bit b ∷ bit last ∷ length m ∷ (m ++ post) in
+    let k = length-append m post in
+    rw (ne-eqb (length l) 0 (λ (z : length l ≡ 0). omega arith), le-leb 6 (length l) (omega arith), fits a e b last (length m) ha he hm, le-leb (6 + length m) (length l) (omega arith), bit-is b, bit-is last)
+
+-- Decode of encode.
+pub look-encode : (e : Entry) (post : List ℕ) → InRange e → look (encode e ++ post) ≡ lookOf e
+look-encode (setup a (four b0 b1 b2 b3) (four b4 b5 b6 b7)) post h = see-setup a b0 b1 b2 b3 b4 b5 b6 b7 post (h .0)
+look-encode (out a e b last l) post h = see-out a e b last l post (h .0) (h .1) (h .2)
+
+pub drop-encode : (e : Entry) (post : List ℕ) → drop (length (encode e)) (encode e ++ post) ≡ post
+drop-encode e post = drop-append-seam (encode e) post
+
+turn-look : (e : Entry) (p : Progress) → turnLook (lookOf e) p ≡ goOn (feed (p .scan) e) (p .at + length (encode e)) (p .count + starts (p .scan) e)
+turn-look (setup a (four b0 b1 b2 b3) (four b4 b5 b6 b7)) p = refl
+turn-look (out a e b last l) p =
+    let z : 6 + length l ≡ length (encode (out a e b last l)) = omega arith in
+    ap (λ (n : ℕ). goOn (feed (p .scan) (out a e b last l)) (p .at + n) (p .count + starts (p .scan) (out a e b last l))) z
+
+-- The turn at an entry's encoding feeds the entry.
+pub turn-encode : (s : List ℕ) (p : Progress) (e : Entry) (post : List ℕ) → drop (p .at) s ≡ encode e ++ post → InRange e
+    → turnOf s p ≡ goOn (feed (p .scan) e) (p .at + length (encode e)) (p .count + starts (p .scan) e)
+unfolding turnOf
+turn-encode s p e post q h = ap (λ (l : List ℕ). turnLook (look l) p) q ∙ ap (λ (y : Look). turnLook y p) (look-encode e post h) ∙ turn-look e p
+
+-- ---- back
+
+byte-at : (l : List ℕ) (i : ℕ) → Bytes l → getD l i 0 < 256
+byte-at [] zero h = omega arith
+byte-at [] (suc i) h = omega arith
+byte-at (x ∷ l) zero h = h .0
+byte-at (x ∷ l) (suc i) h = byte-at l i (h .1)
+
+pub bytes-drop : (n : ℕ) (l : List ℕ) → Bytes l → Bytes (drop n l)
+bytes-drop zero l h = h
+bytes-drop (suc n) [] h = tt
+bytes-drop (suc n) (x ∷ l) h = bytes-drop n l (h .1)
+
+bytes-take : (n : ℕ) (l : List ℕ) → Bytes l → Bytes (take n l)
+bytes-take zero l h = tt
+bytes-take (suc n) [] h = tt
+bytes-take (suc n) (x ∷ l) h = (h .0, bytes-take n l (h .1))
+
+-- The entry that stands at the front of bytes.
+pub record Decoded (l : List ℕ) : Type 0 where
+  pub entry : Entry
+  pub ranged : InRange entry
+  pub rest : List ℕ
+  pub is : l ≡ encode entry ++ rest
+
+one-more : (l : List ℕ) (j : ℕ) (r : List ℕ) → j < length l → drop (suc j) l ≡ r → drop j l ≡ getD l j 0 ∷ r
+one-more l j r h q = drop-cons l j 0 h ∙ ap (λ (v : List ℕ). getD l j 0 ∷ v) q
+
+pub setup-decoded : (l : List ℕ) → Bytes l → getD l 0 0 ≡ 0x53 → 10 ≤ length l → getD l 1 0 ≤ 127 → Decoded l
+setup-decoded l b k h a = record {
+  entry = setup (getD l 1 0) (four (getD l 2 0) (getD l 3 0) (getD l 4 0) (getD l 5 0)) (four (getD l 6 0) (getD l 7 0) (getD l 8 0) (getD l 9 0));
+  ranged = (a, (byte-at l 2 b, byte-at l 3 b, byte-at l 4 b, byte-at l 5 b), (byte-at l 6 b, byte-at l 7 b, byte-at l 8 b, byte-at l 9 b));
+  rest = drop 10 l;
+  is =
+      one-more l 0 _ (omega arith) (one-more l 1 _ (omega arith) (one-more l 2 _ (omega arith) (one-more l 3 _ (omega arith) (one-more l 4 _ (omega arith)
+      (one-more l 5 _ (omega arith) (one-more l 6 _ (omega arith) (one-more l 7 _ (omega arith) (one-more l 8 _ (omega arith) (one-more l 9 (drop 10 l) (omega arith) refl)))))))))
+      ∙ ap (λ (n : ℕ). n ∷ getD l 1 0 ∷ getD l 2 0 ∷ getD l 3 0 ∷ getD l 4 0 ∷ getD l 5 0 ∷ getD l 6 0 ∷ getD l 7 0 ∷ getD l 8 0 ∷ getD l 9 0 ∷ drop 10 l) k;
+}
+
+bit-back : (n : ℕ) → n ≤ 1 → n ≡ bit (eqb n 1)
+bit-back zero h = refl
+bit-back (suc zero) h = refl
+bit-back (suc (suc n)) h = absurd (omega arith)
+
+pub out-decoded : (l : List ℕ) → Bytes l → OutFits l → Decoded l
+out-decoded l b f =
+    let n = getD l 5 0 in
+    let w = f .whole in
+    let m = take n (drop 6 l) in
+    let e₆ : drop 6 l ≡ m ++ drop (6 + n) l = sym (take-append-drop n (drop 6 l)) ∙ ap (λ (v : List ℕ). m ++ v) (drop-drop n 6 l) in
+    let d : length (drop 6 l) ≡ length l - 6 = length-drop 6 l in
+    let lm : length m ≡ n = length-take-le n (drop 6 l) (omega arith) in
+    record {
+      entry = out (getD l 1 0) (getD l 2 0) (eqb (getD l 3 0) 1) (eqb (getD l 4 0) 1) m;
+      ranged = (f .address, f .endpoint, (let s = f .short in omega arith), bytes-take n (drop 6 l) (bytes-drop 6 l b));
+      rest = drop (6 + n) l;
+      is =
+          one-more l 0 _ (omega arith) (one-more l 1 _ (omega arith) (one-more l 2 _ (omega arith) (one-more l 3 _ (omega arith) (one-more l 4 _ (omega arith)
+          (one-more l 5 (m ++ drop (6 + n) l) (omega arith) e₆)))))
+          ∙ again (f .kind) (bit-back (getD l 3 0) (f .pid)) (bit-back (getD l 4 0) (f .last)) (sym lm);
+    }
+  where
+    again : {k p q n k′ p′ q′ n′ : ℕ} {r : List ℕ} → k ≡ k′ → p ≡ p′ → q ≡ q′ → n ≡ n′
+        → k ∷ getD l 1 0 ∷ getD l 2 0 ∷ p ∷ q ∷ n ∷ r ≡ k′ ∷ getD l 1 0 ∷ getD l 2 0 ∷ p′ ∷ q′ ∷ n′ ∷ r
+    again e₁ e₂ e₃ e₄ = cc

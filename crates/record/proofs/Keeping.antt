@@ -1,0 +1,117 @@
+-- The writer, called after every begin and step and refused nowhere, leaves the record's bytes.
+-- Assumes nothing.
+use mathlib.Core.Path.{_≡_, refl, ap, ap₂, sym, subst, _∙_}
+use mathlib.Core.Bool.{Bool, true, false}
+use mathlib.Core.List.{List, [], _∷_, _++_, append-assoc, append-nil}
+use Prim.Native.Nat.{ℕ, _+_, _≤_}
+use native.Mathlib.Omega.{arith}
+use lib.ListN.{length, take, drop, length-append}
+use lib.Seq.{sets, sets-eq, length-sets, length-take-le, take-at, drop-at, drop-drop}
+use lib.Dec.{eqb, leb}
+use borrow.Author.Tests.{leb-true, ne-eqb}
+use Rattle.transfers.specs.declared.answers.Armed.{Armed}
+use Rattle.transfers.specs.declared.driver.Driver.{Driver}
+use Rattle.transfers.specs.Answers.{nothingArmed}
+use Rattle.transfers.specs.Driver.{fresh}
+use Rattle.transfers.specs.Memory.{memoryFits}
+use Rattle.record.specs.Grammar.{Entry}
+use Rattle.record.specs.Calls.{Call, begin, step, cancel, openPipe, closePipe, pollPipe, interrupt, detect, call}
+use Rattle.record.specs.Armed.{entriesArmed}
+use Rattle.record.specs.Record.{answeredFrom}
+use Rattle.record.specs.Bytes.{headBytes, encodeAll, recordOf}
+use Rattle.record.specs.Writer.{armedInRange, appended, appendIf, appendOf}
+use Rattle.record.specs.Kept.{Kept, kept, refused, keptBy, appends, appendsAfter, keptFrom, keptAll}
+use Rattle.record.proofs.Encoding.{encode-append}
+
+-- Bytes stored from a place on: all up to their end, and all after it.
+seam : (l new : List ℕ) (n : ℕ) → n + length new ≤ length l → length (take n l ++ new) ≡ n + length new
+seam l new n h = length-append (take n l) new ∙ ap (λ (k : ℕ). k + length new) (length-take-le n l (omega arith))
+
+put-take : (l new : List ℕ) (n : ℕ) → n + length new ≤ length l → take (n + length new) (sets l n new) ≡ take n l ++ new
+put-take l new n h = ap (λ (x : List ℕ). take (n + length new) x) (sets-eq new l n h) ∙ take-at (take n l ++ new) (drop (n + length new) l) (n + length new) (seam l new n h)
+
+put-drop : (l new : List ℕ) (n : ℕ) → n + length new ≤ length l → drop (n + length new) (sets l n new) ≡ drop (n + length new) l
+put-drop l new n h = ap (λ (x : List ℕ). drop (n + length new) x) (sets-eq new l n h) ∙ drop-at (take n l ++ new) (drop (n + length new) l) (n + length new) (seam l new n h)
+
+-- The used bytes of a record are head and entries; past them it is as it was lent (l₀).
+pub record Holds (l₀ l : List ℕ) (n : ℕ) (es : List Entry) : Type 0 where
+  pub inside : n ≤ length l
+  pub low : 5 ≤ n
+  pub bytes : take n l ≡ recordOf es
+  pub rest : drop n l ≡ drop n l₀
+
+-- So it is where the writer was not refused.
+abbrev pub Fine : List ℕ → Kept → List Entry → Type 0
+Fine l₀ refused es = Unit {0}
+Fine l₀ (kept l n) es = Holds l₀ l n es
+
+-- More entries after those there are.
+more : (es x : List Entry) → recordOf es ++ encodeAll x ≡ recordOf (es ++ x)
+unfolding recordOf
+more es x = append-assoc headBytes (encodeAll es) (encodeAll x) ∙ ap (λ (l : List ℕ). headBytes ++ l) (sym (encode-append es x))
+
+-- With a head there, none is written.
+no-head : (a : Armed) (m : List ℕ) (n : ℕ) → 5 ≤ n → appended a m n ≡ encodeAll (entriesArmed m a)
+unfolding appended
+no-head a m n h = rw (ne-eqb n 0 (λ e. omega arith)) refl
+
+grow : (l₀ : List ℕ) (a : Armed) (m l : List ℕ) (n : ℕ) (es : List Entry) → Holds l₀ l n es → n + length (appended a m n) ≤ length l
+    → Holds l₀ (sets l n (appended a m n)) (n + length (appended a m n)) (es ++ entriesArmed m a)
+grow l₀ a m l n es h room =
+    let new = appended a m n in
+    record {
+      inside = omega (arith, room, length-sets l n new);
+      low = omega (arith, h .low);
+      bytes = put-take l new n room ∙ ap₂ (λ (x y : List ℕ). x ++ y) (h .bytes) (no-head a m n (h .low)) ∙ more es (entriesArmed m a);
+      rest = put-drop l new n room ∙ sym (drop-drop (length new) n l) ∙ ap (λ (x : List ℕ). drop (length new) x) (h .rest) ∙ drop-drop (length new) n l₀;
+    }
+
+-- One call of the writer.
+appended-fine : (l₀ : List ℕ) (a : Armed) (m : List ℕ) (k : Kept) (es : List Entry) → Fine l₀ k es → Fine l₀ (appends a m k) (es ++ entriesArmed m a)
+unfolding appendOf
+appended-fine l₀ a m refused es h = tt
+appended-fine l₀ a m (kept l n) es h = go (memoryFits m) (armedInRange a) (leb (n + length (appended a m n)) (length l)) refl
+  where
+    go : (b c r : Bool) → leb (n + length (appended a m n)) (length l) ≡ r
+        → Fine l₀ (keptBy (appendIf b c r (appended a m n) l n .answer) (appendIf b c r (appended a m n) l n .bytes)) (es ++ entriesArmed m a)
+    go false c r q = tt
+    go true false r q = tt
+    go true true false q = tt
+    go true true true q = grow l₀ a m l n es h (leb-true (n + length (appended a m n)) (length l) q)
+
+-- The first call leaves the head alone.
+first : (m l : List ℕ) → Fine l (appends nothingArmed m (kept l 0)) []
+unfolding appendOf appended recordOf encodeAll
+first m l = go (memoryFits m) (armedInRange nothingArmed) (leb 5 (length l)) refl
+  where
+    go : (b c r : Bool) → leb 5 (length l) ≡ r → Fine l (keptBy (appendIf b c r headBytes l 0 .answer) (appendIf b c r headBytes l 0 .bytes)) []
+    go false c r q = tt
+    go true false r q = tt
+    go true true false q = tt
+    go true true true q =
+        let room = leb-true 5 (length l) q in
+        record { inside = omega (arith, room, length-sets l 0 headBytes); low = omega arith; bytes = put-take l headBytes 0 room; rest = put-drop l headBytes 0 room }
+
+-- One call of the driver: what it answers that it armed is appended.
+one : (l₀ : List ℕ) (k : Kept) (es : List Entry) (d : Driver) (c : Call) → Fine l₀ k es → Fine l₀ (appendsAfter c (call d c) k) (es ++ entriesArmed (call d c .memory) (call d c .armed))
+unfolding call
+one l₀ k es d (begin x buf m log) h = let o = call d (begin x buf m log) in appended-fine l₀ (o .armed) (o .memory) k es h
+one l₀ k es d (step b y buf m log) h = let o = call d (step b y buf m log) in appended-fine l₀ (o .armed) (o .memory) k es h
+one l₀ k es d cancel h = subst (Fine l₀ k) (sym (append-nil es)) h
+one l₀ k es d (openPipe a x e p i log) h = subst (Fine l₀ k) (sym (append-nil es)) h
+one l₀ k es d (closePipe n) h = subst (Fine l₀ k) (sym (append-nil es)) h
+one l₀ k es d (pollPipe n y m log) h = subst (Fine l₀ k) (sym (append-nil es)) h
+one l₀ k es d (interrupt ints status log) h = subst (Fine l₀ k) (sym (append-nil es)) h
+one l₀ k es d (detect sie log) h = subst (Fine l₀ k) (sym (append-nil es)) h
+
+along : (l₀ : List ℕ) (cs : List Call) (k : Kept) (es : List Entry) (d : Driver) → Fine l₀ k es → Fine l₀ (keptFrom k d cs) (es ++ answeredFrom d cs)
+unfolding keptFrom answeredFrom
+along l₀ [] k es d h = subst (Fine l₀ k) (sym (append-nil es)) h
+along l₀ (c ∷ cs) k es d h =
+    let o = call d c in
+    let x = entriesArmed (o .memory) (o .armed) in
+    subst (Fine l₀ (keptFrom (appendsAfter c o k) (o .next) cs)) (append-assoc es x (answeredFrom (o .next) cs)) (along l₀ cs (appendsAfter c o k) (es ++ x) (o .next) (one l₀ k es d c h))
+
+-- The writer's calls over a list of driver calls.
+pub all-fine : (l m : List ℕ) (cs : List Call) → Fine l (keptAll l m cs) (answeredFrom fresh cs)
+all-fine l m cs = along l cs (appends nothingArmed m (kept l 0)) [] fresh (first m l)

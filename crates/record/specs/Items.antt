@@ -1,0 +1,83 @@
+-- The items of a record, one after another: "a control's address, SETUP and OUT bytes; a bulk group's address, endpoint, first PID and bytes".
+use mathlib.Core.Path.{_≡_}
+use mathlib.Core.Bool.{cond}
+use mathlib.Core.List.{List, [], _∷_}
+use Prim.Native.Nat.{ℕ, zero, suc, _+_}
+use lib.ListN.{length, drop}
+use lib.Dec.{eqb}
+use Rattle.record.specs.Grammar.{Part, bulk, control, entries, bytes, sentBytes}
+use Rattle.record.specs.Bytes.{encodeAll}
+use Rattle.record.specs.Reader.{look}
+use Rattle.record.specs.Verdict.{Whole}
+use Rattle.record.specs.declared.look.Look.{Look}
+use Rattle.record.specs.declared.look.Look.the-variants.{Setup, Out, Bad, End}
+use Rattle.record.specs.declared.items.Span.{Span}
+use Rattle.record.specs.declared.items.SpanTurn.{SpanTurn}
+use Rattle.record.specs.declared.items.SpanTurn.the-variants.{More, Ended}
+use Rattle.record.specs.declared.items.ItemAnswer.{ItemAnswer}
+use Rattle.record.specs.declared.items.ItemAnswer.the-variants.{Control, Bulk, End as noItem}
+
+-- One packet of a group: a marked one ends it.
+abbrev pub groupLook : Look → Span → SpanTurn
+groupLook (Out x) p = cond (x .last) (Ended (record { at = p .at + (6 + x .length); count = p .count + x .length })) (More (record { at = p .at + (6 + x .length); count = p .count + x .length }))
+groupLook (Setup a w) p = Ended p
+groupLook Bad p = Ended p
+groupLook End p = Ended p
+
+unfoldable pub groupOf : List ℕ → Span → SpanTurn
+groupOf s p = groupLook (look (drop (p .at) s)) p
+
+-- Packet by packet, with f packets at most.
+unfoldable pub groupFrom : ℕ → List ℕ → Span → Span
+groupFrom zero s p = p
+groupFrom (suc f) s p = elim (groupOf s p) as (λ _. Span) [ More q ↦ groupFrom f s q | Ended q ↦ q ]
+
+unfoldable pub groupAt : List ℕ → ℕ → Span
+groupAt s at = groupFrom (suc (length s)) s (record { at = at; count = 0 })
+
+-- What follows a SETUP: nothing, or packets on endpoint 0.
+abbrev pub sentLook : Look → List ℕ → ℕ → Span
+sentLook (Out x) s at = cond (eqb (x .endpoint) 0) (groupAt s at) (record { at = at; count = 0 })
+sentLook (Setup a w) s at = record { at = at; count = 0 }
+sentLook Bad s at = record { at = at; count = 0 }
+sentLook End s at = record { at = at; count = 0 }
+
+unfoldable pub sentAt : List ℕ → ℕ → Span
+sentAt s at = sentLook (look (drop at s)) s at
+
+abbrev pub itemLook : Look → List ℕ → ℕ → ItemAnswer
+itemLook (Setup a w) s at = Control (record { address = a; setup = at + 2; count = sentAt s (at + 10) .count; next = record { at = sentAt s (at + 10) .at } })
+itemLook (Out x) s at = Bulk (record { address = x .address; endpoint = x .endpoint; pid = x .pid; count = groupAt s at .count; next = record { at = groupAt s at .at } })
+itemLook Bad s at = noItem
+itemLook End s at = noItem
+
+-- What the cursor hands out at a position.
+unfoldable pub itemAt : List ℕ → ℕ → ItemAnswer
+itemAt s at = itemLook (look (drop at s)) s at
+
+-- What stands for a part of a record whose entries begin at a position: its item, by the place of the SETUP bytes and the count of OUT bytes, and the position after it.
+abbrev pub itemFor : Part → ℕ → ItemAnswer
+itemFor (bulk a e b xs l) at = Bulk (record { address = a; endpoint = e; pid = b; count = length (bytes xs l); next = record { at = at + length (encodeAll (entries (bulk a e b xs l))) } })
+itemFor (control a lo hi s) at = Control (record { address = a; setup = at + 2; count = length (sentBytes s); next = record { at = at + length (encodeAll (entries (control a lo hi s))) } })
+
+-- The cursor after an item.
+abbrev pub nextOf : ItemAnswer → ℕ → ℕ
+nextOf (Control c) at = c .next .at
+nextOf (Bulk b) at = b .next .at
+nextOf noItem at = at
+
+-- What the cursor hands out, k times.
+unfoldable pub itemsFrom : ℕ → List ℕ → ℕ → List ItemAnswer
+itemsFrom zero s at = []
+itemsFrom (suc k) s at = itemAt s at ∷ itemsFrom k s (nextOf (itemAt s at) at)
+
+-- What stands for the parts of a record whose entries begin at a position.
+abbrev pub itemsFor : List Part → ℕ → List ItemAnswer
+itemsFor [] at = []
+itemsFor (q ∷ qs) at = itemFor q at ∷ itemsFor qs (at + length (encodeAll (entries q)))
+
+-- A record that the check accepts has a reading, and the cursor hands out its items from the first on.
+pub record Accepted (s : List ℕ) (n : ℕ) : Type 0 where
+  pub record-is : Whole s
+  pub count : n ≡ length (record-is .reading .parts)
+  pub items : itemsFrom n s 5 ≡ itemsFor (record-is .reading .parts) 5

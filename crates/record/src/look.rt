@@ -1,0 +1,119 @@
+// One entry of a record's bytes.
+use crate::flags::both;
+use crate::writer::VERSION;
+ghost use mathlib.Core.Path.{_≡_};
+ghost use Prim.Native.Nat.{_+_, _*_, _<_, _≤_};
+ghost use lib.ListN.{length, drop};
+ghost use Rattle.record.specs.Reader.{headRight, lookSetup, fieldsFit, lookOut, look};
+
+// An OUT entry without its bytes.
+pub struct OutHead {
+    pub address: u8,
+    pub endpoint: u8,
+    pub pid: bool,
+    pub last: bool,
+    pub length: u8,
+}
+
+// What stands at a position: a SETUP with address and wLength, an OUT packet, no entry, or nothing.
+pub enum Look {
+    Setup(u8, u16),
+    Out(OutHead),
+    Bad,
+    End,
+}
+
+fn word(low: u8, high: u8) -> u16
+    ensures { λ r. ⌜ r ≡ low + high * 256 ⌝ }
+{
+    low as u16 + high as u16 * 256
+}
+
+pub(crate) fn head_right(s: &[u8]) -> bool
+    ensures { λ r. ⌜ r ≡ headRight (now (s .entry)) ⌝ }
+{
+    if s.len() < 5 {
+        return false;
+    }
+    let version = word(s[3], s[4]);
+    both(
+        s[0] == 0x57,
+        both(s[1] == 0x4C, both(s[2] == 0x47, version == VERSION)),
+    )
+}
+
+fn look_setup(s: &[u8], at: usize) -> Look
+    requires { ⌜ at < length (now s) ⌝ }
+    ensures { λ r. ⌜ r ≡ lookSetup (drop at (now (s .entry))) ⌝ }
+{
+    if s.len() - at < 10 {
+        return Look::Bad;
+    }
+    let address = s[at + 1];
+    if 127 < address {
+        return Look::Bad;
+    }
+    Look::Setup(address, word(s[at + 8], s[at + 9]))
+}
+
+fn fields_fit(address: u8, endpoint: u8, pid: u8, last: u8, length: u8) -> bool
+    ensures { λ r. ⌜ r ≡ fieldsFit address endpoint pid last length ⌝ }
+{
+    both(
+        address <= 127,
+        both(
+            endpoint <= 15,
+            both(pid <= 1, both(last <= 1, length <= 64)),
+        ),
+    )
+}
+
+fn wide(x: u8) -> usize
+    ensures { λ r. ⌜ (r ≡ x) × (r ≤ 255) ⌝ }
+{
+    x as usize
+}
+
+fn look_out(s: &[u8], at: usize) -> Look
+    requires { ⌜ at < length (now s) ⌝ }
+    ensures { λ r. ⌜ r ≡ lookOut (drop at (now (s .entry))) ⌝ }
+{
+    if s.len() - at < 6 {
+        return Look::Bad;
+    }
+    let address = s[at + 1];
+    let endpoint = s[at + 2];
+    let pid = s[at + 3];
+    let last = s[at + 4];
+    let length = s[at + 5];
+    if !fields_fit(address, endpoint, pid, last, length) {
+        return Look::Bad;
+    }
+    if s.len() - at < 6 + wide(length) {
+        return Look::Bad;
+    }
+    Look::Out(OutHead {
+        address,
+        endpoint,
+        pid: pid == 1,
+        last: last == 1,
+        length,
+    })
+}
+
+// The entry at a position.
+pub(crate) fn look_at(s: &[u8], at: usize) -> Look
+    ensures { λ r. ⌜ r ≡ look (drop at (now (s .entry))) ⌝ }
+{
+    if s.len() <= at {
+        return Look::End;
+    }
+    let kind = s[at];
+    if kind == 0x53 {
+        return look_setup(s, at);
+    }
+    if kind == 0x4F {
+        return look_out(s, at);
+    }
+    Look::Bad
+}

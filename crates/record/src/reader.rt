@@ -1,0 +1,99 @@
+// The record's reader.
+use crate::look::Look;
+use crate::look::head_right;
+use crate::look::look_at;
+use crate::refusal::Refusal;
+use crate::scan::OptionScan;
+use crate::scan::Scan;
+use crate::scan::feed_out;
+use crate::scan::feed_setup;
+use crate::scan::starts_out;
+ghost use mathlib.Core.Path.{_≡_};
+ghost use Prim.Native.Nat.{_≤_};
+ghost use lib.ListN.{length};
+ghost use Rattle.record.specs.Reader.{finish, goOn, turnOf, checkOf};
+
+pub enum CheckAnswer {
+    Transfers(usize),
+    Refused(Refusal),
+}
+
+// How far the reader has come: the next entry's position, what may come, and the items begun.
+pub struct Progress {
+    pub at: usize,
+    pub scan: Scan,
+    pub count: usize,
+}
+
+pub enum Turn {
+    Go(Progress),
+    Stop(CheckAnswer),
+}
+
+fn finished(scan: Scan, count: usize) -> CheckAnswer
+    ensures { λ r. ⌜ r ≡ finish scan count ⌝ }
+{
+    match scan {
+        Scan::Between => CheckAnswer::Transfers(count),
+        Scan::AfterSetup(_, _) => CheckAnswer::Transfers(count),
+        Scan::InBulk(_, _, _, _, _) => CheckAnswer::Refused(Refusal::Grammar),
+        Scan::InControl(_, _, _, _, _) => CheckAnswer::Refused(Refusal::Grammar),
+    }
+}
+
+fn go_on(next: OptionScan, at: usize, count: usize) -> Turn
+    ensures { λ r. ⌜ r ≡ goOn next at count ⌝ }
+{
+    match next {
+        OptionScan::None => Turn::Stop(CheckAnswer::Refused(Refusal::Grammar)),
+        OptionScan::Some(scan) => Turn::Go(Progress { at, scan, count }),
+    }
+}
+
+// One entry.
+fn turn_at(s: &[u8], p: Progress) -> Turn
+    requires { ⌜ (p .at ≤ length (now s)) × (p .count ≤ p .at) ⌝ }
+    ensures { λ r. ⌜ r ≡ turnOf (now (s .entry)) p ⌝ }
+{
+    let at = p.at;
+    let scan = p.scan;
+    let l = look_at(s, at);
+    match l {
+        Look::End => Turn::Stop(finished(scan, p.count)),
+        Look::Bad => Turn::Stop(CheckAnswer::Refused(Refusal::Field)),
+        Look::Setup(a, w) => go_on(feed_setup(scan, a, w), at + 10, p.count + 1),
+        Look::Out(x) => {
+            let begun = starts_out(scan, x.endpoint);
+            go_on(
+                feed_out(scan, x),
+                at + (6 + x.length as usize),
+                p.count + begun,
+            )
+        }
+    }
+}
+
+// The number for which a record is refused, or the count of its transfers.
+pub fn check(s: &[u8]) -> CheckAnswer
+    ensures { λ r. ⌜ r ≡ checkOf (now (s .entry)) ⌝ }
+{
+    if !head_right(s) {
+        return CheckAnswer::Refused(Refusal::Mark);
+    }
+    let mut p = Progress {
+        at: 5,
+        scan: Scan::Between,
+        count: 0,
+    };
+    loop {
+        let t = turn_at(s, p);
+        match t {
+            Turn::Go(q) => {
+                p = q;
+            }
+            Turn::Stop(answer) => {
+                return answer;
+            }
+        }
+    }
+}
