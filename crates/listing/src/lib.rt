@@ -17,17 +17,23 @@ fn print_number(n: usize) {
     io::print_decimal(STDOUT_FILENO, n as u64);
 }
 
+// Two digits.
+fn print_byte(b: u8) {
+    io::print_hex(STDOUT_FILENO, b as u64, 2);
+}
+
+fn print_bytes(bytes: &[u8]) {
+    for i in 0..bytes.len() {
+        print_byte(bytes[i]);
+    }
+}
+
 // The eight bytes of a SETUP.
 fn print_setup(s: &[u8], at: usize) {
-    if s.len() < at {
-        return;
-    }
-    let bytes = &s[at..];
-    if bytes.len() < 8 {
-        return;
-    }
-    for i in 0..8 {
-        io::print_hex(STDOUT_FILENO, bytes[i] as u64, 2);
+    if at <= s.len() {
+        if 8 <= s.len() - at {
+            print_bytes(&s[at..at + 8]);
+        }
     }
 }
 
@@ -70,12 +76,16 @@ pub fn print_refusal(refusal: Refusal) {
     io::write_all(STDOUT_FILENO, b"\n");
 }
 
-fn print_transfers(s: &[u8], count: usize) {
-    io::write_all(STDOUT_FILENO, b"WLG 1\n");
+fn print_items(s: &[u8], count: usize) {
     let mut cursor = first();
     for _ in 0..count {
         cursor = print_item(s, cursor);
     }
+}
+
+fn print_transfers(s: &[u8], count: usize) {
+    io::write_all(STDOUT_FILENO, b"WLG 1\n");
+    print_items(s, count);
     io::write_all(STDOUT_FILENO, b"end");
     print_number(count);
     io::write_all(STDOUT_FILENO, b"\n");

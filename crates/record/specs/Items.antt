@@ -17,6 +17,10 @@ use Rattle.record.specs.declared.items.SpanTurn.the-variants.{More, Ende
 use Rattle.record.specs.declared.items.ItemAnswer.{ItemAnswer}
 use Rattle.record.specs.declared.items.ItemAnswer.the-variants.{Control, Bulk, End as noItem}
 
+-- The first item stands after the head.
+abbrev pub firstAt : ℕ
+firstAt = 5
+
 -- One packet of a group: a marked one ends it.
 abbrev pub groupLook : Look → Span → SpanTurn
 groupLook (Out x) p = cond (x .last) (Ended (record { at = p .at + (6 + x .length); count = p .count + x .length })) (More (record { at = p .at + (6 + x .length); count = p .count + x .length }))
@@ -80,4 +84,4 @@ itemsFor (q ∷ qs) at = itemFor q at ∷ itemsFor qs (at + length (encodeAll (e
 pub record Accepted (s : List ℕ) (n : ℕ) : Type 0 where
   pub record-is : Whole s
   pub count : n ≡ length (record-is .reading .parts)
-  pub items : itemsFrom n s 5 ≡ itemsFor (record-is .reading .parts) 5
+  pub items : itemsFrom n s firstAt ≡ itemsFor (record-is .reading .parts) firstAt

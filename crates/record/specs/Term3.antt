@@ -17,7 +17,7 @@ use Rattle.record.specs.Premises.{none, unarmed, PremisesFrom}
 use Rattle.record.specs.Bytes.{recordOf}
 use Rattle.record.specs.Kept.{kept, keptAll}
 use Rattle.record.specs.Reader.{checkOf}
-use Rattle.record.specs.Items.{itemsFrom, itemsFor}
+use Rattle.record.specs.Items.{firstAt, itemsFrom, itemsFor}
 use Rattle.record.specs.declared.reader.CheckAnswer.the-variants.{Transfers}
 
 -- The premises, from a fresh driver. f is the registers before the first call.
@@ -47,7 +47,7 @@ pub record Written (f : File) (cs : List Call) (l l′ : List ℕ) (n : ℕ) : T
 pub record ReadBack (f : File) (cs : List Call) (s : List ℕ) : Type 0 where
   pub recorded : Recorded f cs
   pub count : checkOf s ≡ Transfers (length (listed (begunFrom fresh cs)))
-  pub items : itemsFrom (length (listed (begunFrom fresh cs))) s 5 ≡ itemsFor (recorded .reading .parts) 5
+  pub items : itemsFrom (length (listed (begunFrom fresh cs))) s firstAt ≡ itemsFor (recorded .reading .parts) firstAt
 
 -- Whatever the registers hold at first (f). `AllTyped` says only that the numbers are those of the program's types. Code, contract and theorem hang together so:
 -- each function of the driver, writer and reader is proved equal to a definition (its `ensures`), and `call`, `appendOf`, `checkOf` and `itemAt` are these.

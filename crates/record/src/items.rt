@@ -4,9 +4,9 @@ use crate::look::look_at;
 ghost use mathlib.Core.Path.{_≡_};
 ghost use Prim.Native.Nat.{_+_, _≤_};
 ghost use lib.ListN.{length};
-ghost use Rattle.record.specs.Items.{groupOf, groupAt, sentAt, itemAt};
+ghost use Rattle.record.specs.Items.{firstAt, groupOf, groupAt, sentAt, itemAt};
 
-// The position of an item, or the end. The first one stands after the head.
+// The position of an item, or the end.
 pub struct Cursor {
     pub at: usize,
 }
@@ -108,6 +108,13 @@ fn sent_at(s: &[u8], at: usize) -> Span
         Look::Bad => Span { at, count: 0 },
         Look::End => Span { at, count: 0 },
     }
+}
+
+// The first item's cursor.
+pub fn first() -> Cursor
+    ensures { λ r. ⌜ r .at ≡ firstAt ⌝ }
+{
+    Cursor { at: 5 }
 }
 
 // The item at a cursor, with the next cursor.
