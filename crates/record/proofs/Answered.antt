@@ -56,9 +56,11 @@ use Rattle.transfers.specs.Driver.{fresh}
 use Rattle.record.specs.Calls.{Begin, control, bulk, Call, begin, step, cancel, openPipe, closePipe, pollPipe, interrupt, detect, call, beginning}
 use Rattle.record.specs.Armed.{entriesArmed}
 use Rattle.record.specs.Record.{recordFrom, answeredFrom, Typed, AllTyped, TypedBegin}
+use Rattle.record.specs.Writer.{armedInRange}
 use Rattle.record.proofs.Logs.{Silent, silent-nil, silent-apart, silent-enable}
 use Rattle.record.proofs.Stages.{between, startLog, heads, in-two, out-two, armEvents}
 use Rattle.record.proofs.Begins.{requestOf, Checked, endpoint-small}
+use Rattle.record.proofs.Ranged.{two-small, none-ranged, outs-ranged, setup-ranged}
 use Rattle.record.proofs.Inv.{Shown, shown-by, shown-file, wire-none}
 use Rattle.record.proofs.Starting.{start-in, setup-wire}
 use Rattle.record.proofs.Stepping.{polledOnly, quietened, completed, silent-polled, silent-quietened, silent-completed, silent-awaiting}
@@ -92,13 +94,14 @@ known-file f g (Busy r) e i = (i .0, shows-file f g (r .request) (r .stage) e (i
 record Tells (f : File) (t : Transfer) (ws : List Write) (m : List ℕ) (a : Armed) : Type 0 where
   known : Known (performs f ws) t
   is : wire f ws m ≡ entriesArmed m a
+  ranged : armedInRange a ≡ true
 
 abbrev Told : File → Outcome → Type 0
 Told f o = Tells f (o .next) (o .writes) (o .memory) (o .armed)
 
 -- A silent log that arms nothing.
 still : (f : File) (t : Transfer) (ws : List Write) (m : List ℕ) → Silent ws → Known f t → Tells f t ws m nothingArmed
-still f t ws m s i = record { known = known-file f (performs f ws) t (s .addr f) i; is = wire-none f ws m (s .are f) }
+still f t ws m s i = record { known = known-file f (performs f ws) t (s .addr f) i; is = wire-none f ws m (s .are f); ranged = none-ranged }
 
 keeps : (f : File) (s : Bool) (now : List ℕ) (o : Outcome) → Told f (after quietened o) → Told f (after polledOnly (keeping s now (after quiets o)))
 keeps f true now o h = h
@@ -131,11 +134,15 @@ starts-out pre x t status received n now m f sp gd =
     let ws = startLog pre T n (g .writes) Out in
     let h = heads pre (g .writes) (armEvents (g .first) ++ armEvents (g .second)) T n Out sp (out-two 0 c 0 now m) f in
     let s = shown-by (performs f ws) (x .address) (endpointOf (x .kind)) (gd .addr) (gd .endp) (h .addr) in
-    record { known = (gd, s); is = arms-wire f ws (g .memory) (x .address) (endpointOf (x .kind)) (g .first) (g .second) (h .are) s }
+    record {
+      known = (gd, s);
+      is = arms-wire f ws (g .memory) (x .address) (endpointOf (x .kind)) (g .first) (g .second) (h .are) s;
+      ranged = outs-ranged (x .address) (endpointOf (x .kind)) (g .first) (g .second) (gd .addr) (gd .endp) (two-small 0 c 0 now m);
+    }
 
 starts-in : (pre : List Write) (x : Request) (t : TransferType) (status : Bool) (n : ℕ) (m : List ℕ) (f : File) → Silent pre → Good x
     → Tells f (Busy (record { request = x; stage = inStage (startIn (targetOf x) t status n .stage) })) (pre ++ startIn (targetOf x) t status n .writes) m nothingArmed
-starts-in pre x t status n m f sp gd = record { known = (gd, tt); is = wire-none f (pre ++ startIn (targetOf x) t status n .writes) m (start-in pre x t status n f sp) }
+starts-in pre x t status n m f sp gd = record { known = (gd, tt); is = wire-none f (pre ++ startIn (targetOf x) t status n .writes) m (start-in pre x t status n f sp); ranged = none-ranged }
 
 -- ---- a step
 
@@ -180,7 +187,7 @@ module _ (f : File) (x : Request) (gd : Good x) (now m : List ℕ) where
       let g = inArmTwo wd (inPackets x st) k in
       let last = enableWrites (x .size) (stageLength x (st .status)) in
       let s = between quietened (g .writes) last [] silent-quietened (in-two wd (inPackets x st) k) (silent-enable (x .size) (stageLength x (st .status))) in
-      record { known = (gd, tt); is = wire-none f (quietened ++ (g .writes ++ last)) m (s .are f) }
+      record { known = (gd, tt); is = wire-none f (quietened ++ (g .writes ++ last)) m (s .are f); ranged = none-ranged }
 
   tells-in-move : (st : InStage) (wd : ℕ) (bf : List ℕ) → Told f (after quietened (inMove x st wd bf m))
   unfolding inMove
@@ -216,7 +223,11 @@ module _ (f : File) (x : Request) (gd : Good x) (now m : List ℕ) where
       let s = between quietened (g .writes) last (armEvents (g .first) ++ armEvents (g .second)) silent-quietened (out-two wd (outPackets x st) (r .inflight) bf m)
       (silent-enable (x .size) (stageLength x (st .status))) in
       let sh′ = shown-file f (performs f ws) (x .address) (endpointOf (x .kind)) (s .addr f) sh in
-      record { known = (gd, sh′); is = arms-wire f ws (g .memory) (x .address) (endpointOf (x .kind)) (g .first) (g .second) (s .are f) sh′ }
+      record {
+        known = (gd, sh′);
+        is = arms-wire f ws (g .memory) (x .address) (endpointOf (x .kind)) (g .first) (g .second) (s .are f) sh′;
+        ranged = outs-ranged (x .address) (endpointOf (x .kind)) (g .first) (g .second) (gd .addr) (gd .endp) (two-small wd (outPackets x st) (r .inflight) bf m);
+      }
 
   tells-polls : (st : Stage) (p : Poll) (wd : ℕ) → Shows f x st → Told f (polls p x st wd now m)
   unfolding setupStep inStep outStep
@@ -264,7 +275,7 @@ tells-begin f t (control a z p s ph) buf m log ty i =
     (λ q.
     let k = passed (lentFits m log) (isIdle t) (addressGood a) true (sizeGood p) true q in
     let ck = checked-control a z p s ph buf (k .address) (k .size) (ty .2) in
-    record { known = (good-of (control a z p s ph) buf ck, tt); is = setup-wire f a z s m (ck .addr) (ty .2) })
+    record { known = (good-of (control a z p s ph) buf ck, tt); is = setup-wire f a z s m (ck .addr) (ty .2); ranged = setup-ranged (record { address = a; setup = s }) (ck .addr) })
 tells-begin f t (bulk In a e p k b) buf m log ty i =
     begins-or f t m (bulkRefusal t a e p buf m log) (beginsBulkIn (bulkRequest In a e p b (length buf)) k m) i
     (λ q.
@@ -300,6 +311,18 @@ tells-call (closePipe k) d f ty i = still f (d .transfer) [] [] silent-nil i
 tells-call (pollPipe k y m log) d f ty i = let ws = polling d k y m log .writes in still f (d .transfer) ws m (silent-apart ws (poll-apart d k y m log)) i
 tells-call (interrupt ints status log) d f ty i = let ws = waking ints status log .writes in still f (d .transfer) ws [] (silent-apart ws (irq-apart ints status log)) i
 tells-call (detect sie log) d f ty i = let ws = detecting d sie log .writes in still f (d .transfer) ws [] (silent-apart ws (detect-apart d sie log)) i
+
+-- What is armed along a list of calls lies in its ranges.
+abbrev pub AllRanged : Driver → List Call → Type 0
+AllRanged d [] = Unit {0}
+AllRanged d (c ∷ cs) = (armedInRange (call d c .armed) ≡ true) × AllRanged (call d c .next) cs
+
+ranged-from : (cs : List Call) (f : File) (d : Driver) → AllTyped cs → Known f (d .transfer) → AllRanged d cs
+ranged-from [] f d ty i = tt
+ranged-from (c ∷ cs) f d ty i = let k = tells-call c d f (ty .0) i in (k .ranged, ranged-from cs (performs f (call d c .writes)) (call d c .next) (ty .1) (k .known))
+
+pub all-ranged : (cs : List Call) → AllTyped cs → AllRanged fresh cs
+all-ranged cs ty = ranged-from cs (λ q. 0) fresh ty tt
 
 answered-from : (cs : List Call) (f : File) (d : Driver) → AllTyped cs → Known f (d .transfer) → recordFrom f d cs ≡ answeredFrom d cs
 unfolding recordFrom answeredFrom

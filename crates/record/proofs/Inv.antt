@@ -22,7 +22,7 @@ use Rattle.transfers.specs.Sample.{available}
 use Rattle.transfers.specs.State.{endpointOf}
 use Rattle.transfers.specs.Step.{outPackets, lent}
 use Rattle.record.specs.Grammar.{Entry}
-use Rattle.record.specs.Wire.{File, performs, events, entryOf, wire}
+use Rattle.record.specs.Wire.{File, performs, events, wire}
 use Rattle.record.specs.Calls.{Begin, control, bulk, Call, Effect, note}
 use Rattle.record.specs.Record.{sentOf, packetsOf, outEntry, begunBy}
 use Rattle.record.specs.Premises.{Live, none, live, Watch, unarmed, armed, taken, seen, nextLive, nextCount, nextWatch, failed}

@@ -7,7 +7,7 @@ use Prim.Native.Nat.{ℕ, _+_, _≤_}
 use native.Mathlib.Omega.{arith}
 use lib.ListN.{length, take, drop, length-append}
 use lib.Seq.{sets, sets-eq, length-sets, length-take-le, take-at, drop-at, drop-drop}
-use lib.Dec.{eqb, leb}
+use lib.Dec.{leb}
 use borrow.Author.Tests.{leb-true, ne-eqb}
 use Rattle.transfers.specs.declared.answers.Armed.{Armed}
 use Rattle.transfers.specs.declared.driver.Driver.{Driver}
@@ -51,7 +51,7 @@ unfolding recordOf
 more es x = append-assoc headBytes (encodeAll es) (encodeAll x) ∙ ap (λ (l : List ℕ). headBytes ++ l) (sym (encode-append es x))
 
 -- With a head there, none is written.
-no-head : (a : Armed) (m : List ℕ) (n : ℕ) → 5 ≤ n → appended a m n ≡ encodeAll (entriesArmed m a)
+pub no-head : (a : Armed) (m : List ℕ) (n : ℕ) → 5 ≤ n → appended a m n ≡ encodeAll (entriesArmed m a)
 unfolding appended
 no-head a m n h = rw (ne-eqb n 0 (λ e. omega arith)) refl
 

@@ -12,6 +12,7 @@ pub mod Starting
 pub mod Stepping
 pub mod Beginning
 pub mod Forward
+pub mod Ranged
 pub mod Recorded
 pub mod Answered
 pub mod Sane
@@ -28,5 +29,6 @@ pub mod Verdicts
 pub mod Spans
 pub mod Handing
 pub mod Keeping
+pub mod Roomy
 pub mod ReadBack
 pub mod Term3

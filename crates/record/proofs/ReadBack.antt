@@ -1,9 +1,9 @@
 -- The writer's bytes are the record's, and the reader reads them.
 -- Assumes nothing.
 use mathlib.Core.Path.{_≡_, refl, ap, sym, subst, _∙_}
-use mathlib.Core.List.{List, map}
+use mathlib.Core.List.{List}
 use Prim.Native.Nat.{ℕ}
-use lib.ListN.{length, drop, length-map}
+use lib.ListN.{length, length-map}
 use Rattle.transfers.specs.Driver.{fresh}
 use Rattle.record.specs.Grammar.{item}
 use Rattle.record.specs.Wire.{File}
@@ -11,7 +11,7 @@ use Rattle.record.specs.Calls.{Call}
 use Rattle.record.specs.Record.{AllTyped, recordFrom, answeredFrom, begunFrom, listed, itemOf}
 use Rattle.record.specs.Bytes.{encodeAll, recordOf}
 use Rattle.record.specs.Kept.{Kept, kept, keptAll}
-use Rattle.record.specs.Items.{itemsFrom, itemsFor}
+use Rattle.record.specs.Items.{itemsFrom}
 use Rattle.record.specs.Term3.{Premises, Written, ReadBack}
 use Rattle.record.specs.declared.reader.CheckAnswer.the-variants.{Transfers}
 use Rattle.record.proofs.Answered.{answered}

@@ -1,12 +1,14 @@
 -- The record that the writer leaves: "Called first for nothing armed, then after every begin and step with the packet memory as that call left it, and refused nowhere".
+use mathlib.Core.Path.{_≡_}
 use mathlib.Core.List.{List, [], _∷_}
 use Prim.Native.Nat.{ℕ}
+use lib.ListN.{length}
 use Rattle.transfers.specs.declared.answers.Armed.{Armed}
 use Rattle.transfers.specs.declared.driver.Driver.{Driver}
 use Rattle.transfers.specs.Answers.{nothingArmed}
 use Rattle.transfers.specs.Driver.{fresh}
 use Rattle.record.specs.Calls.{Call, begin, step, cancel, openPipe, closePipe, pollPipe, interrupt, detect, Effect, call}
-use Rattle.record.specs.Writer.{Append, appendOf}
+use Rattle.record.specs.Writer.{appendOf}
 use Rattle.record.specs.declared.writer.AppendAnswer.{AppendAnswer}
 use Rattle.record.specs.declared.writer.AppendAnswer.the-variants.{Used, Refused}
 
@@ -44,3 +46,19 @@ keptFrom k d (c ∷ cs) = let o = call d c in keptFrom (appendsAfter c o k) (o .
 -- "Called first for nothing armed": a record l is lent, of which nothing is used, and a packet memory m.
 abbrev pub keptAll : List ℕ → List ℕ → List Call → Kept
 keptAll l m cs = keptFrom (appends nothingArmed m (kept l 0)) fresh cs
+
+-- The packet memory lent to a begin or step is 4,096 bytes (else the writer too refuses with 15).
+abbrev pub Lent : Call → Type 0
+Lent (begin x buf m log) = length m ≡ 4096
+Lent (step b y buf m log) = length m ≡ 4096
+Lent cancel = Unit {0}
+Lent (openPipe a x e p i log) = Unit {0}
+Lent (closePipe n) = Unit {0}
+Lent (pollPipe n y m log) = Unit {0}
+Lent (interrupt ints status log) = Unit {0}
+Lent (detect sie log) = Unit {0}
+
+-- That of every call of a list.
+abbrev pub AllLent : List Call → Type 0
+AllLent [] = Unit {0}
+AllLent (c ∷ cs) = Lent c × AllLent cs

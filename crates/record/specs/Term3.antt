@@ -6,7 +6,7 @@
 -- that acted on an OUT transfer was lent its begin's bytes, and an OUT stage was reported complete only after its marked packet was taken."
 use mathlib.Core.Path.{_≡_}
 use mathlib.Core.List.{List, map}
-use Prim.Native.Nat.{ℕ}
+use Prim.Native.Nat.{ℕ, _≤_}
 use lib.ListN.{length, take, drop}
 use Rattle.record.specs.Grammar.{Entry, entries, item, Reading}
 use Rattle.record.specs.Wire.{File}
@@ -15,7 +15,7 @@ use Rattle.record.specs.Calls.{Call}
 use Rattle.record.specs.Record.{AllTyped, recordFrom, answeredFrom, begunFrom, listed, itemOf, armedBy}
 use Rattle.record.specs.Premises.{none, unarmed, PremisesFrom}
 use Rattle.record.specs.Bytes.{recordOf}
-use Rattle.record.specs.Kept.{kept, keptAll}
+use Rattle.record.specs.Kept.{kept, refused, keptAll, AllLent}
 use Rattle.record.specs.Reader.{checkOf}
 use Rattle.record.specs.Items.{firstAt, itemsFrom, itemsFor}
 use Rattle.record.specs.declared.reader.CheckAnswer.the-variants.{Transfers}
@@ -55,10 +55,12 @@ pub record ReadBack (f : File) (cs : List Call) (s : List ℕ) : Type 0 where
 --   comes: every record of the grammar comes from a list of calls that meets the premises.
 --   answered: what begin and step answer that they armed is the record. No premise.
 --   written: the writer, called as document 01 says and refused nowhere, leaves exactly the record's bytes. No premise.
+--   room: it is refused nowhere if the record lent has room and every begin and step was lent 4,096 bytes of packet memory.
 --   read: the reader reads them.
 pub record Term3 : Type 0 where
   pub recorded : (f : File) (cs : List Call) → AllTyped cs → Premises f cs → Recorded f cs
   pub comes : (f : File) (r : List Entry) → Reading r → ComesFrom f r
   pub answered : (f : File) (cs : List Call) → AllTyped cs → recordFrom f fresh cs ≡ answeredFrom fresh cs
   pub written : (f : File) (cs : List Call) → AllTyped cs → (l m l′ : List ℕ) (n : ℕ) → keptAll l m cs ≡ kept l′ n → Written f cs l l′ n
+  pub room : (cs : List Call) → AllTyped cs → AllLent cs → (l m : List ℕ) → length m ≡ 4096 → length (recordOf (answeredFrom fresh cs)) ≤ length l → keptAll l m cs ≡ refused → ⊥
   pub read : (f : File) (cs : List Call) → AllTyped cs → Premises f cs → ReadBack f cs (recordOf (recordFrom f fresh cs))

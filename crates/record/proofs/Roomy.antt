@@ -1,0 +1,97 @@
+-- With room for the record and whole packet memories the writer is refused nowhere.
+-- Assumes nothing.
+use mathlib.Core.Path.{_≡_, ap, sym, subst, _∙_}
+use mathlib.Core.Bool.{true}
+use mathlib.Core.List.{List, [], _∷_, _++_}
+use Prim.Native.Nat.{ℕ, _+_, _≤_}
+use native.Mathlib.Nat.{zero-add}
+use native.Mathlib.Omega.{arith}
+use lib.ListN.{length, length-append, length-drop}
+use lib.Seq.{sets, length-sets}
+use borrow.Author.Tests.{le-leb, eq-eqb}
+use Rattle.transfers.specs.declared.answers.Armed.{Armed}
+use Rattle.transfers.specs.declared.driver.Driver.{Driver}
+use Rattle.transfers.specs.declared.driver.Transfer.{Transfer}
+use Rattle.transfers.specs.declared.wire.Direction.the-variants.{In, Out}
+use Rattle.transfers.specs.Answers.{nothingArmed}
+use Rattle.transfers.specs.Driver.{fresh}
+use Rattle.transfers.specs.Memory.{SlotsOnly}
+use Rattle.transfers.proofs.SlotsOnly.{step-slots, begin-control-slots, begin-bulk-in-slots, begin-bulk-out-slots}
+use Rattle.record.specs.Calls.{Begin, control, bulk, Call, begin, step, cancel, openPipe, closePipe, pollPipe, interrupt, detect, call, beginning}
+use Rattle.record.specs.Armed.{entriesArmed}
+use Rattle.record.specs.Record.{AllTyped, answeredFrom}
+use Rattle.record.specs.Bytes.{headBytes, encodeAll, recordOf}
+use Rattle.record.specs.Writer.{armedInRange, appended, appendOf}
+use Rattle.record.specs.Kept.{Kept, kept, refused, appends, appendsAfter, keptFrom, keptAll, Lent, AllLent}
+use Rattle.record.proofs.Encoding.{encode-append}
+use Rattle.record.proofs.Keeping.{no-head}
+use Rattle.record.proofs.Answered.{AllRanged, all-ranged}
+use Rattle.record.proofs.Ranged.{none-ranged}
+
+-- A call of the writer with room.
+fits : (a : Armed) (m l : List ℕ) (n : ℕ) → length m ≡ 4096 → armedInRange a ≡ true → n + length (appended a m n) ≤ length l
+    → appends a m (kept l n) ≡ kept (sets l n (appended a m n)) (n + length (appended a m n))
+unfolding appendOf
+fits a m l n hm ha h = rw (eq-eqb (length m) 4096 hm, ha, le-leb (n + length (appended a m n)) (length l) h)
+
+-- Not refused, with room left for r bytes.
+abbrev Room : Kept → ℕ → Type 0
+Room refused r = ⊥
+Room (kept l n) r = (5 ≤ n) × (n + r ≤ length l)
+
+-- One call of the writer.
+append-room : (a : Armed) (m : List ℕ) (k : Kept) (r : ℕ) → length m ≡ 4096 → armedInRange a ≡ true → Room k (length (encodeAll (entriesArmed m a)) + r) → Room (appends a m k) r
+append-room a m refused r hm ha h = h
+append-room a m (kept l n) r hm ha h =
+    let w = no-head a m n (h .0) in
+    let e : length (appended a m n) ≡ length (encodeAll (entriesArmed m a)) = ap length w in
+    subst (λ (k : Kept). Room k r) (sym (fits a m l n hm ha (omega (arith, e, h .1))))
+    (omega (arith, h .0), omega (arith, e, h .1, length-sets l n (appended a m n)))
+
+-- Begin and step leave as many bytes of packet memory as they were lent.
+slots-length : (m m′ : List ℕ) → SlotsOnly m m′ → length m ≡ 4096 → length m′ ≡ 4096
+slots-length m m′ s e = let q = ap length (s .above) in omega (arith, q, length-drop 0x200 m, length-drop 0x200 m′)
+
+begin-slots : (t : Transfer) (x : Begin) (buf m log : List ℕ) → SlotsOnly m (beginning t x buf m log .memory)
+begin-slots t (control a x p s ph) buf m log = begin-control-slots t a x p s ph buf m log
+begin-slots t (bulk In a e p k b) buf m log = begin-bulk-in-slots t a e p k b buf m log
+begin-slots t (bulk Out a e p k b) buf m log = begin-bulk-out-slots t a e p k b buf m log
+
+none-more : (k : Kept) (r : ℕ) → Room k (0 + r) → Room k r
+none-more k r h = subst (λ (n : ℕ). Room k n) (zero-add r) h
+
+-- One call of the driver.
+one-room : (c : Call) (d : Driver) (k : Kept) (r : ℕ) → Lent c → armedInRange (call d c .armed) ≡ true
+    → Room k (length (encodeAll (entriesArmed (call d c .memory) (call d c .armed))) + r) → Room (appendsAfter c (call d c) k) r
+unfolding call encodeAll
+one-room (begin x buf m log) d k r lent a h = let o = call d (begin x buf m log) in
+    append-room (o .armed) (o .memory) k r (slots-length m (o .memory) (begin-slots (d .transfer) x buf m log) lent) a h
+one-room (step b y buf m log) d k r lent a h = let o = call d (step b y buf m log) in
+    append-room (o .armed) (o .memory) k r (slots-length m (o .memory) (step-slots b (d .transfer) y buf m log) lent) a h
+one-room cancel d k r lent a h = none-more k r h
+one-room (openPipe a x e p i log) d k r lent q h = none-more k r h
+one-room (closePipe n) d k r lent a h = none-more k r h
+one-room (pollPipe n y m log) d k r lent a h = none-more k r h
+one-room (interrupt ints status log) d k r lent a h = none-more k r h
+one-room (detect sie log) d k r lent a h = none-more k r h
+
+along : (cs : List Call) (d : Driver) (k : Kept) → AllLent cs → AllRanged d cs → Room k (length (encodeAll (answeredFrom d cs))) → Room (keptFrom k d cs) 0
+unfolding keptFrom answeredFrom encodeAll
+along [] d k lent a h = h
+along (c ∷ cs) d k lent a h =
+    let o = call d c in
+    let x = entriesArmed (o .memory) (o .armed) in
+    let rest = answeredFrom (o .next) cs in
+    let e : length (encodeAll (x ++ rest)) ≡ length (encodeAll x) + length (encodeAll rest) = ap length (encode-append x rest) ∙ length-append (encodeAll x) (encodeAll rest) in
+    along cs (o .next) (appendsAfter c o k) (lent .1) (a .1) (one-room c d k (length (encodeAll rest)) (lent .0) (a .0) (subst (λ (r : ℕ). Room k r) e h))
+
+-- The first call of the writer.
+head-room : (m l : List ℕ) (r : ℕ) → length m ≡ 4096 → 5 + r ≤ length l → Room (appends nothingArmed m (kept l 0)) r
+unfolding appended encodeAll
+head-room m l r hm h = subst (λ (k : Kept). Room k r) (sym (fits nothingArmed m l 0 hm none-ranged (omega (arith, h)))) (omega arith, omega (arith, h, length-sets l 0 headBytes))
+
+pub room : (cs : List Call) → AllTyped cs → AllLent cs → (l m : List ℕ) → length m ≡ 4096 → length (recordOf (answeredFrom fresh cs)) ≤ length l → keptAll l m cs ≡ refused → ⊥
+unfolding recordOf
+room cs ty lent l m hm h q =
+    let e = length-append headBytes (encodeAll (answeredFrom fresh cs)) in
+    subst (λ (k : Kept). Room k 0) q (along cs fresh (appends nothingArmed m (kept l 0)) lent (all-ranged cs ty) (head-room m l (length (encodeAll (answeredFrom fresh cs))) hm (omega (arith, e, h))))
