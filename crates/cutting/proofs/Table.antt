@@ -1,17 +1,15 @@
--- The cutting rows of document 01's proved table. Assumes nothing.
-use mathlib.Core.Path.{_≡_, refl, sym, ap, ap₂, _∙_, subst}
+-- The table's rows of a cutting are its lengths, the last one with the star. Assumes nothing.
+use mathlib.Core.Path.{_≡_, refl, sym, ap₂, subst}
 use mathlib.Core.Bool.{Bool, true, false, not}
 use mathlib.Core.List.{List, [], _∷_, map}
 use Prim.Native.Nat.{ℕ, zero, suc, _-_, _≤_, _<_}
 use native.Mathlib.Omega.{arith}
-use lib.Dec.{lit<}
 use lib.ListN.{length, drop, length-drop}
 use lib.Seq.{length-take-le}
 use Rattle.pool.proofs.Cases.{byCases}
 use Rattle.cutting.specs.declared.transfer_type.TransferType.{TransferType}
-use Rattle.cutting.specs.declared.transfer_type.TransferType.the-variants.{FixedSize, VariableSize}
-use Rattle.cutting.specs.Cut.{lengths, deal, none, numbered, outCut, inCut}
-use Rattle.cutting.specs.Table.{Row, row, outRow, inRow, Cuts, CuttingRows}
+use Rattle.cutting.specs.Cut.{lengths, deal, none, numbered, outCut}
+use Rattle.cutting.specs.Table.{Row, row, outRow}
 use Rattle.cutting.proofs.Lengths.{more, more-le, lengths-more, lengths-last}
 use Rattle.cutting.proofs.Cutting.{deal-none}
 
@@ -44,22 +42,3 @@ lengths-within (suc m) t p n h k = byCases (more t p n)
 pub cut-rows : (t : TransferType) (p : ℕ) (b : Bool) (l : List ℕ) → 0 < p → map outRow (outCut t p b l) ≡ rows (lengths t p (length l))
 unfolding outCut
 cut-rows t p b l h = dealt (lengths t p (length l)) l false b (lengths-within (length l) t p (length l) h (omega arith))
-
-table-row : (t : TransferType) (n : ℕ) (rs : List Row) → rows (lengths t 64 n) ≡ rs → Cuts t n rs
-table-row t n rs e b l k = cut-rows t 64 b l (lit< tt) ∙ ap (λ (m : ℕ). rows (lengths t 64 m)) k ∙ e
-
-pub cutting-rows : CuttingRows
-unfolding lengths rows inCut numbered
-cutting-rows = record {
-  empty = λ t. table-row t 0 _ (either t (λ (u : TransferType). rows (lengths u 64 0) ≡ _) refl refl);
-  short = λ t. table-row t 63 _ (either t (λ (u : TransferType). rows (lengths u 64 63) ≡ _) refl refl);
-  fixed = table-row FixedSize 64 _ refl;
-  variable = table-row VariableSize 64 _ refl;
-  long = λ t. table-row t 65 _ (either t (λ (u : TransferType). rows (lengths u 64 65) ≡ _) refl refl);
-  twice = table-row VariableSize 128 _ refl;
-  inward = λ t b. either t (λ (u : TransferType). map inRow (inCut u 64 b 65) ≡ _) refl refl;
-}
-  where
-    either : (t : TransferType) (P : TransferType → Type 0) → P FixedSize → P VariableSize → P t
-    either FixedSize P f v = f
-    either VariableSize P f v = v

@@ -25,9 +25,9 @@ use Rattle.transfers.specs.Memory.{logFits}
 use Rattle.transfers.specs.State.{addressGood, endpointGood, sizeGood}
 use Rattle.transfers.specs.Pipes.{openNumber, openIndex, openFree, openIf, openingPipe, opening, indexOpen}
 use Rattle.transfers.specs.Isolation.{isOpen, isSome}
-use Rattle.transfers.specs.PipeRows.{OpenFits}
+use Rattle.transfers.specs.ProvedTable.{OpenFits}
 use Rattle.transfers.proofs.OpenPipes.{open-some}
-use Rattle.transfers.proofs.PipeRows.{free}
+use Rattle.transfers.proofs.ProvedTable.{free}
 
 -- A pipe from 1 to 15 whose index the pool has handed out is open.
 pub open-has : (p : Pool) (n : PipeNumber) → 1 ≤ n .0 → n .0 ≤ pipes → has (p .allocated .0) (n .0 - offset) ≡ true → isOpen p n ≡ true

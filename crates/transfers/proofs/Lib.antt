@@ -15,5 +15,5 @@ pub mod OpenPipes
 pub mod Isolation
 pub mod Apart
 pub mod Untouched
-pub mod PipeRows
+pub mod ProvedTable
 pub mod AllOpen

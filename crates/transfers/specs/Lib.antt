@@ -19,7 +19,7 @@ pub mod Detect
 pub mod Driver
 pub mod Isolation
 pub mod Apart
-pub mod PipeRows
+pub mod ProvedTable
 -- What the crate's own functions are held to.
 pub mod Arms
 pub mod Starts
