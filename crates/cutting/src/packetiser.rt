@@ -1,4 +1,4 @@
-// The counters of `OutPacketiser` and `InPacketiser`, by value, and their next packet.
+// `OutPacketiser` and `InPacketiser`, their counters and their next packet.
 use crate::transfer_type::TransferType;
 ghost use mathlib.Core.Path.{_≡_};
 ghost use Rattle.cutting.specs.Counters.{zlpOf, nextOf, pidOf, owedAfter, outStart, outNext, inStart, inNext};
@@ -30,6 +30,12 @@ pub struct OutCounters {
     pub offset: u16,
     pub size: u8,
     pub zlp: bool,
+}
+
+// The caller's bytes beside the counters.
+pub struct OutPacketiser<'a> {
+    pub counters: OutCounters,
+    pub buf: &'a [u8],
 }
 
 pub struct OutNext {
@@ -170,8 +176,8 @@ impl InPacketiser {
         }
     }
 
-    // The next packet and the counters after it. A slot is armed with the packet size, however few bytes are left.
-    pub fn next_packet(self) -> InNext
+    // The next packet and the counters after it, by value. A slot is armed with the packet size, however few bytes are left.
+    fn packet(self) -> InNext
         ensures { λ r. ⌜ r ≡ inNext self ⌝ }
     {
         let next = next_length(self.remain, self.size, self.zlp);
@@ -197,4 +203,23 @@ impl InPacketiser {
             },
         }
     }
+
+    // The counters are lent, as in the Rust: they change to those after the packet.
+    pub fn next_packet(&mut self) -> OptionArm
+        ensures { λ r. ⌜ (r ≡ inNext (now (self .entry)) .arm) × (now (self .exit) ≡ inNext (now (self .entry)) .rest) ⌝ }
+    {
+        let c = *self;
+        let next = c.packet();
+        *self = next.rest;
+        next.arm
+    }
+}
+
+// For a caller that has the counters by value: they are lent to `next_packet`, and come back beside its answer.
+pub fn next_in(c: InPacketiser) -> InNext
+    ensures { λ r. ⌜ r ≡ inNext c ⌝ }
+{
+    let mut p = c;
+    let arm = p.next_packet();
+    InNext { arm: arm, rest: p }
 }

@@ -5,6 +5,8 @@ use crate::writes::put_arm;
 use cutting::packetiser::InPacketiser;
 use cutting::packetiser::OptionArm;
 use cutting::packetiser::OutCounters;
+use cutting::packetiser::OutPacketiser;
+use cutting::packetiser::next_in;
 ghost use mathlib.Core.Path.{_≡_};
 ghost use Prim.Native.Nat.{_+_, _≤_, _<_};
 ghost use lib.ListN.{length};
@@ -53,7 +55,7 @@ fn in_arm(buffers: u32, c: InPacketiser, inflight: u8, log: &mut [u32], k: usize
             writes: k,
         };
     }
-    let next = c.next_packet();
+    let next = next_in(c);
     let arm = next.arm;
     let rest = next.rest;
     match arm {
@@ -85,7 +87,8 @@ pub(crate) fn in_arm_two(
     in_arm(buffers, d, g.inflight, log, g.writes)
 }
 
-fn out_arm(
+// `prepare` of `OutPacketiser`, with its counters and its bytes apart.
+fn out_prepare(
     buffers: u32,
     c: OutCounters,
     inflight: u8,
@@ -126,6 +129,46 @@ fn out_arm(
             }
         }
     }
+}
+
+// `prepare` as in the Rust: the packetiser holds the caller's bytes beside its counters.
+fn prepare<'a>(
+    buffers: u32,
+    p: OutPacketiser<'a>,
+    inflight: u8,
+    pm: &mut [u8],
+    log: &mut [u32],
+    k: usize,
+) -> OutArmed
+    requires { ⌜ (p .counters .offset + p .counters .remain ≤ length (now (p .buf))) × (length (now pm) ≡ 4096) × (k ≤ 61) × (192 ≤ length (now log)) ⌝ }
+    ensures { λ r. ⌜ ArmsOut (outArm buffers (p .entry .counters) inflight (now (p .entry .buf)) (now (pm .entry))) (now (log .entry)) k r (now (pm .exit)) (now (log .exit)) ⌝ }
+{
+    out_prepare(buffers, p.counters, inflight, p.buf, pm, log, k)
+}
+
+fn out_arm(
+    buffers: u32,
+    c: OutCounters,
+    inflight: u8,
+    buf: &[u8],
+    pm: &mut [u8],
+    log: &mut [u32],
+    k: usize,
+) -> OutArmed
+    requires { ⌜ (c .offset + c .remain ≤ length (now buf)) × (length (now pm) ≡ 4096) × (k ≤ 61) × (192 ≤ length (now log)) ⌝ }
+    ensures { λ r. ⌜ ArmsOut (outArm buffers c inflight (now (buf .entry)) (now (pm .entry))) (now (log .entry)) k r (now (pm .exit)) (now (log .exit)) ⌝ }
+{
+    prepare(
+        buffers,
+        OutPacketiser {
+            counters: c,
+            buf: buf,
+        },
+        inflight,
+        pm,
+        log,
+        k,
+    )
 }
 
 pub(crate) fn out_arm_two(

@@ -17,8 +17,8 @@ returns : tie.Need-returns
 unfolding inArm
 returns c = simp (sym ((c .before .may-arm) .ensures) ∙ not-true _ ((c .if1 .taken))) (record { packets = refl; inflight = refl; log = nothing _ _ })
 
-next-packet-requires : tie.Need-next-packet-requires
-next-packet-requires c κs = search needs
+next-in-requires : tie.Need-next-in-requires
+next-in-requires c κs = search needs
 
 enum-told : tie.Need-enum-told
 enum-told c = search needs
@@ -34,14 +34,14 @@ put-arm-requires c κs = search needs
 
 returns-2 : tie.Need-returns-2
 unfolding inArm
-returns-2 c = let e = sym (ap (λ (y : InNext). y .arm) ((c .before .before .before .next-packet) .ensures)) ∙ (c .enum-told) .given .1 in simp (sym ((c .before .before .before .before .before .may-arm) .ensures) ∙ not-false _ ((c .before .before .before .before .if1 .left)), e) (record { packets = ap (λ (y : InNext). y .rest) ((c .before .before .before .next-packet) .ensures); inflight = refl; log = nothing _ _ })
+returns-2 c = let e = sym (ap (λ (y : InNext). y .arm) ((c .before .before .before .next-in) .ensures)) ∙ (c .enum-told) .given .1 in simp (sym ((c .before .before .before .before .before .may-arm) .ensures) ∙ not-false _ ((c .before .before .before .before .if1 .left)), e) (record { packets = ap (λ (y : InNext). y .rest) ((c .before .before .before .next-in) .ensures); inflight = refl; log = nothing _ _ })
 
 same-length : tie.Need-same-length
 same-length c = search needs
 
 returns-3 : tie.Need-returns-3
 unfolding inArm
-returns-3 c = let e = sym (ap (λ (y : InNext). y .arm) ((c .before .before .before .before .before .before .before .before .next-packet) .ensures)) ∙ (c .before .before .before .before .before .arm) .given .1 in simp (sym ((c .before .before .before .before .before .before .before .before .before .before .may-arm) .ensures) ∙ not-false _ ((c .before .before .before .before .before .before .before .before .before .if1 .left)), e) (record { packets = ap (λ (y : InNext). y .rest) ((c .before .before .before .before .before .before .before .before .next-packet) .ensures); inflight = refl; log = (c .before .before .put-arm) .ensures })
+returns-3 c = let e = sym (ap (λ (y : InNext). y .arm) ((c .before .before .before .before .before .before .before .before .next-in) .ensures)) ∙ (c .before .before .before .before .before .arm) .given .1 in simp (sym ((c .before .before .before .before .before .before .before .before .before .before .may-arm) .ensures) ∙ not-false _ ((c .before .before .before .before .before .before .before .before .before .if1 .left)), e) (record { packets = ap (λ (y : InNext). y .rest) ((c .before .before .before .before .before .before .before .before .next-in) .ensures); inflight = refl; log = (c .before .before .put-arm) .ensures })
 
 pub in-arm-spec : {M : Type 1} → statement M
 in-arm-spec =
@@ -49,7 +49,7 @@ in-arm-spec =
     (tie.spec
     may-arm-requires
     returns
-    next-packet-requires
+    next-in-requires
     enum-told
     enum-known-arm
     add-t13
