@@ -31,4 +31,5 @@ pub mod Handing
 pub mod Keeping
 pub mod Roomy
 pub mod ReadBack
+pub mod Fifteen
 pub mod Term3

@@ -1,0 +1,4 @@
+pub mod Walks
+pub mod Spelling
+pub mod Storing
+pub mod Placing

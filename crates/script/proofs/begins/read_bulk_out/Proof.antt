@@ -1,0 +1,69 @@
+-- `read_bulk_out` is `bulkOutOf`: its fields, then BYTES.
+-- Assumes nothing.
+use mathlib.Core.Path.{_≡_, refl, sym, ap, _∙_}
+use Rattle.script.specs.Lines.{bulkOutOf}
+use borrow.Author.Needs.{needs}
+use Rattle.script.proofs.begins.read_bulk_out.Statement.{statement}
+use Rattle.script.proofs.begins.read_bulk_out.Tie as tie
+
+read-bulk-requires : tie.Need-read-bulk-requires
+read-bulk-requires c κs = search needs
+
+enum-known-f1 : tie.Need-enum-known-f1
+enum-known-f1 c = search needs
+
+enum-told : tie.Need-enum-told
+enum-told c = search needs
+
+returns : tie.Need-returns
+unfolding bulkOutOf
+returns c =
+    let enum-told = c .enum-told in
+    let read-bulk = c .before .before .read-bulk in
+    (simp (sym (read-bulk .ensures) ∙ enum-told .given .1), simp (sym (read-bulk .ensures) ∙ enum-told .given .1))
+
+bytes-at-requires : tie.Need-bytes-at-requires
+bytes-at-requires c κs = search needs
+
+enum-known-f2 : tie.Need-enum-known-f2
+enum-known-f2 c = search needs
+
+enum-told-2 : tie.Need-enum-told-2
+enum-told-2 c = search needs
+
+returns-2 : tie.Need-returns-2
+unfolding bulkOutOf
+returns-2 c =
+    let enum-told2 = c .enum-told2 in
+    let bytes-at = c .before .before .bytes-at in
+    let f1 = c .before .before .before .before .before .f1 in
+    let read-bulk = c .before .before .before .before .before .before .before .read-bulk in
+    (simp (sym (read-bulk .ensures) ∙ f1 .given .1, sym (bytes-at .ensures .0) ∙ enum-told2 .given .1), simp (sym (read-bulk .ensures) ∙ f1 .given .1, sym (bytes-at .ensures .0) ∙ enum-told2 .given .1) (bytes-at .ensures .1))
+
+bulk-count-requires : tie.Need-bulk-count-requires
+bulk-count-requires c κs = search needs
+
+returns-3 : tie.Need-returns-3
+unfolding bulkOutOf
+returns-3 c =
+    let bulk-count = c .bulk-count in
+    let f2 = c .before .before .f2 in
+    let bytes-at = c .before .before .before .before .bytes-at in
+    let f1 = c .before .before .before .before .before .before .before .f1 in
+    let read-bulk = c .before .before .before .before .before .before .before .before .before .read-bulk in
+    (simp (sym (read-bulk .ensures) ∙ f1 .given .1, sym (bytes-at .ensures .0) ∙ f2 .given .1, bulk-count .ensures), simp (sym (read-bulk .ensures) ∙ f1 .given .1) (bytes-at .ensures .1))
+
+pub read-bulk-out-spec : {M : Type 1} → statement M
+read-bulk-out-spec =
+    tie.close
+    (tie.spec
+    read-bulk-requires
+    enum-known-f1
+    enum-told
+    returns
+    bytes-at-requires
+    enum-known-f2
+    enum-told-2
+    returns-2
+    bulk-count-requires
+    returns-3)

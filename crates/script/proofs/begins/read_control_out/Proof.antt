@@ -1,0 +1,69 @@
+-- `read_control_out` is `controlOutOf`: its fields, then BYTES.
+-- Assumes nothing.
+use mathlib.Core.Path.{_≡_, refl, sym, ap, _∙_}
+use Rattle.script.specs.Lines.{controlOutOf}
+use borrow.Author.Needs.{needs}
+use Rattle.script.proofs.begins.read_control_out.Statement.{statement}
+use Rattle.script.proofs.begins.read_control_out.Tie as tie
+
+read-control-requires : tie.Need-read-control-requires
+read-control-requires c κs = search needs
+
+enum-known-f1 : tie.Need-enum-known-f1
+enum-known-f1 c = search needs
+
+enum-told : tie.Need-enum-told
+enum-told c = search needs
+
+returns : tie.Need-returns
+unfolding controlOutOf
+returns c =
+    let enum-told = c .enum-told in
+    let read-control = c .before .before .read-control in
+    (simp (sym (read-control .ensures) ∙ enum-told .given .1), simp (sym (read-control .ensures) ∙ enum-told .given .1))
+
+bytes-at-requires : tie.Need-bytes-at-requires
+bytes-at-requires c κs = search needs
+
+enum-known-f2 : tie.Need-enum-known-f2
+enum-known-f2 c = search needs
+
+enum-told-2 : tie.Need-enum-told-2
+enum-told-2 c = search needs
+
+returns-2 : tie.Need-returns-2
+unfolding controlOutOf
+returns-2 c =
+    let enum-told2 = c .enum-told2 in
+    let bytes-at = c .before .before .bytes-at in
+    let f1 = c .before .before .before .before .before .f1 in
+    let read-control = c .before .before .before .before .before .before .before .read-control in
+    (simp (sym (read-control .ensures) ∙ f1 .given .1, sym (bytes-at .ensures .0) ∙ enum-told2 .given .1), simp (sym (read-control .ensures) ∙ f1 .given .1, sym (bytes-at .ensures .0) ∙ enum-told2 .given .1) (bytes-at .ensures .1))
+
+control-count-requires : tie.Need-control-count-requires
+control-count-requires c κs = search needs
+
+returns-3 : tie.Need-returns-3
+unfolding controlOutOf
+returns-3 c =
+    let control-count = c .control-count in
+    let f2 = c .before .before .f2 in
+    let bytes-at = c .before .before .before .before .bytes-at in
+    let f1 = c .before .before .before .before .before .before .before .f1 in
+    let read-control = c .before .before .before .before .before .before .before .before .before .read-control in
+    (simp (sym (read-control .ensures) ∙ f1 .given .1, sym (bytes-at .ensures .0) ∙ f2 .given .1, control-count .ensures), simp (sym (read-control .ensures) ∙ f1 .given .1) (bytes-at .ensures .1))
+
+pub read-control-out-spec : {M : Type 1} → statement M
+read-control-out-spec =
+    tie.close
+    (tie.spec
+    read-control-requires
+    enum-known-f1
+    enum-told
+    returns
+    bytes-at-requires
+    enum-known-f2
+    enum-told-2
+    returns-2
+    control-count-requires
+    returns-3)

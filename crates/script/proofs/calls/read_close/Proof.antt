@@ -1,0 +1,50 @@
+-- `read_close` is `closeOf`, field by field.
+-- Assumes nothing.
+use mathlib.Core.Path.{_≡_, refl, sym, ap, _∙_}
+use borrow.Author.Tests.{eq-eqb, ne-eqb}
+use Rattle.script.specs.Lines.{closeOf}
+use borrow.Author.Needs.{needs}
+use Rattle.script.proofs.calls.read_close.Statement.{statement}
+use Rattle.script.proofs.calls.read_close.Tie as tie
+
+fields-requires : tie.Need-fields-requires
+fields-requires c κs = search needs
+
+returns : tie.Need-returns
+unfolding closeOf
+returns c =
+    let if1 = c .if1 .taken in
+    let fields = c .before .fields in
+    simp (ne-eqb _ _ (λ e. if1 (fields .ensures ∙ e)))
+
+byte-at-requires : tie.Need-byte-at-requires
+byte-at-requires c κs = search needs
+
+enum-known-f1 : tie.Need-enum-known-f1
+enum-known-f1 c = search needs
+
+enum-told : tie.Need-enum-told
+enum-told c = search needs
+
+returns-2 : tie.Need-returns-2
+unfolding closeOf
+returns-2 c =
+    let enum-told = c .enum-told in
+    let byte-at = c .before .before .byte-at in
+    let if1 = c .before .before .before .if1 .left in
+    let fields = c .before .before .before .before .fields in
+    simp (eq-eqb _ _ (sym (fields .ensures) ∙ if1), sym (byte-at .ensures) ∙ enum-told .given .1)
+
+returns-3 : tie.Need-returns-3
+unfolding closeOf
+returns-3 c =
+    let f1 = c .before .f1 in
+    let byte-at = c .before .before .before .byte-at in
+    let if1 = c .before .before .before .before .if1 .left in
+    let fields = c .before .before .before .before .before .fields in
+    simp (eq-eqb _ _ (sym (fields .ensures) ∙ if1), sym (byte-at .ensures) ∙ f1 .given .1)
+
+pub read-close-spec : {M : Type 1} → statement M
+read-close-spec =
+    tie.close
+    (tie.spec fields-requires returns byte-at-requires enum-known-f1 enum-told returns-2 returns-3)

@@ -1,0 +1,83 @@
+-- `read_lend` is `lendOf`, field by field.
+-- Assumes nothing.
+use mathlib.Core.Path.{_≡_, refl, sym, ap, _∙_}
+use borrow.Author.Tests.{eq-eqb, ne-eqb}
+use Rattle.script.specs.Lines.{lendOf}
+use borrow.Author.Needs.{needs}
+use Rattle.script.proofs.calls.read_lend.Statement.{statement}
+use Rattle.script.proofs.calls.read_lend.Tie as tie
+
+fields-requires : tie.Need-fields-requires
+fields-requires c κs = search needs
+
+returns : tie.Need-returns
+unfolding lendOf
+returns c =
+    let if1 = c .if1 .taken in
+    let fields = c .before .fields in
+    simp (ne-eqb _ _ (λ e. if1 (fields .ensures ∙ e)))
+
+length-at-requires : tie.Need-length-at-requires
+length-at-requires c κs = search needs
+
+enum-known-f1 : tie.Need-enum-known-f1
+enum-known-f1 c = search needs
+
+enum-told : tie.Need-enum-told
+enum-told c = search needs
+
+returns-2 : tie.Need-returns-2
+unfolding lendOf
+returns-2 c =
+    let enum-told = c .enum-told in
+    let length-at = c .before .before .length-at in
+    let if1 = c .before .before .before .if1 .left in
+    let fields = c .before .before .before .before .fields in
+    simp (eq-eqb _ _ (sym (fields .ensures) ∙ if1), sym (length-at .ensures) ∙ enum-told .given .1)
+
+length-at-requires-2 : tie.Need-length-at-requires-2
+length-at-requires-2 c κs = search needs
+
+enum-known-f2 : tie.Need-enum-known-f2
+enum-known-f2 c = search needs
+
+enum-told-2 : tie.Need-enum-told-2
+enum-told-2 c = search needs
+
+returns-3 : tie.Need-returns-3
+unfolding lendOf
+returns-3 c =
+    let enum-told2 = c .enum-told2 in
+    let length-at2 = c .before .before .length-at2 in
+    let f1 = c .before .before .before .before .f1 in
+    let length-at = c .before .before .before .before .before .before .length-at in
+    let if1 = c .before .before .before .before .before .before .before .if1 .left in
+    let fields = c .before .before .before .before .before .before .before .before .fields in
+    simp (eq-eqb _ _ (sym (fields .ensures) ∙ if1), sym (length-at .ensures) ∙ f1 .given .1, sym (length-at2 .ensures) ∙ enum-told2 .given .1)
+
+returns-4 : tie.Need-returns-4
+unfolding lendOf
+returns-4 c =
+    let f2 = c .before .f2 in
+    let length-at2 = c .before .before .before .length-at2 in
+    let f1 = c .before .before .before .before .before .f1 in
+    let length-at = c .before .before .before .before .before .before .before .length-at in
+    let if1 = c .before .before .before .before .before .before .before .before .if1 .left in
+    let fields = c .before .before .before .before .before .before .before .before .before .fields in
+    simp (eq-eqb _ _ (sym (fields .ensures) ∙ if1), sym (length-at .ensures) ∙ f1 .given .1, sym (length-at2 .ensures) ∙ f2 .given .1)
+
+pub read-lend-spec : {M : Type 1} → statement M
+read-lend-spec =
+    tie.close
+    (tie.spec
+    fields-requires
+    returns
+    length-at-requires
+    enum-known-f1
+    enum-told
+    returns-2
+    length-at-requires-2
+    enum-known-f2
+    enum-told-2
+    returns-3
+    returns-4)

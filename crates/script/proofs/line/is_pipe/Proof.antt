@@ -1,0 +1,111 @@
+-- `is_pipe` is `isPipe`, word by word.
+-- Assumes nothing.
+use mathlib.Core.Path.{_≡_, refl, sym, ap, _∙_}
+use Rattle.script.specs.Lines.{isPipe}
+use borrow.Author.Needs.{needs}
+use Rattle.script.proofs.line.is_pipe.Statement.{statement}
+use Rattle.script.proofs.line.is_pipe.Tie as tie
+
+slice-aggregate-same : tie.Need-slice-aggregate-same
+slice-aggregate-same c = search needs
+
+same-requires : tie.Need-same-requires
+same-requires c κs = search needs
+
+returns : tie.Need-returns
+unfolding isPipe
+returns c =
+    let if1 = c .if1 .taken in
+    let same = c .before .same in
+    simp (sym (same .ensures) ∙ if1)
+
+slice-aggregate-same-2 : tie.Need-slice-aggregate-same-2
+slice-aggregate-same-2 c = search needs
+
+same-requires-2 : tie.Need-same-requires-2
+same-requires-2 c κs = search needs
+
+returns-2 : tie.Need-returns-2
+unfolding isPipe
+returns-2 c =
+    let if2 = c .if2 .taken in
+    let same2 = c .before .same2 in
+    let if1 = c .before .before .before .if1 .left in
+    let same = c .before .before .before .before .same in
+    simp (sym (same .ensures) ∙ if1, sym (same2 .ensures) ∙ if2)
+
+slice-aggregate-same-3 : tie.Need-slice-aggregate-same-3
+slice-aggregate-same-3 c = search needs
+
+same-requires-3 : tie.Need-same-requires-3
+same-requires-3 c κs = search needs
+
+returns-3 : tie.Need-returns-3
+unfolding isPipe
+returns-3 c =
+    let if3 = c .if3 .taken in
+    let same3 = c .before .same3 in
+    let if2 = c .before .before .before .if2 .left in
+    let same2 = c .before .before .before .before .same2 in
+    let if1 = c .before .before .before .before .before .before .if1 .left in
+    let same = c .before .before .before .before .before .before .before .same in
+    simp (sym (same .ensures) ∙ if1, sym (same2 .ensures) ∙ if2, sym (same3 .ensures) ∙ if3)
+
+slice-aggregate-same-4 : tie.Need-slice-aggregate-same-4
+slice-aggregate-same-4 c = search needs
+
+same-requires-4 : tie.Need-same-requires-4
+same-requires-4 c κs = search needs
+
+returns-4 : tie.Need-returns-4
+unfolding isPipe
+returns-4 c =
+    let if4 = c .if4 .taken in
+    let same4 = c .before .same4 in
+    let if3 = c .before .before .before .if3 .left in
+    let same3 = c .before .before .before .before .same3 in
+    let if2 = c .before .before .before .before .before .before .if2 .left in
+    let same2 = c .before .before .before .before .before .before .before .same2 in
+    let if1 = c .before .before .before .before .before .before .before .before .before .if1 .left in
+    let same = c .before .before .before .before .before .before .before .before .before .before .same in
+    simp (sym (same .ensures) ∙ if1, sym (same2 .ensures) ∙ if2, sym (same3 .ensures) ∙ if3, sym (same4 .ensures) ∙ if4)
+
+slice-aggregate-same-5 : tie.Need-slice-aggregate-same-5
+slice-aggregate-same-5 c = search needs
+
+same-requires-5 : tie.Need-same-requires-5
+same-requires-5 c κs = search needs
+
+returns-5 : tie.Need-returns-5
+unfolding isPipe
+returns-5 c =
+    let same5 = c .same5 in
+    let if4 = c .before .before .if4 .left in
+    let same4 = c .before .before .before .same4 in
+    let if3 = c .before .before .before .before .before .if3 .left in
+    let same3 = c .before .before .before .before .before .before .same3 in
+    let if2 = c .before .before .before .before .before .before .before .before .if2 .left in
+    let same2 = c .before .before .before .before .before .before .before .before .before .same2 in
+    let if1 = c .before .before .before .before .before .before .before .before .before .before .before .if1 .left in
+    let same = c .before .before .before .before .before .before .before .before .before .before .before .before .same in
+    simp (sym (same .ensures) ∙ if1, sym (same2 .ensures) ∙ if2, sym (same3 .ensures) ∙ if3, sym (same4 .ensures) ∙ if4) (same5 .ensures)
+
+pub is-pipe-spec : {M : Type 1} → statement M
+is-pipe-spec =
+    tie.close
+    (tie.spec
+    slice-aggregate-same
+    same-requires
+    returns
+    slice-aggregate-same-2
+    same-requires-2
+    returns-2
+    slice-aggregate-same-3
+    same-requires-3
+    returns-3
+    slice-aggregate-same-4
+    same-requires-4
+    returns-4
+    slice-aggregate-same-5
+    same-requires-5
+    returns-5)

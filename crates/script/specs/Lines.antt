@@ -1,0 +1,307 @@
+-- What a line asks for: the table of the script's format, line by line.
+use mathlib.Core.Bool.{Bool, true, false, cond, _&&_, _||_}
+use mathlib.Core.List.{List, [], _∷_}
+use Prim.Native.Nat.{ℕ, _+_}
+use lib.Dec.{eqb, leb}
+use lib.ListN.{length, getD}
+use Rattle.script.specs.Parts.{fieldOf, fieldsOf, sameText}
+use Rattle.script.specs.Typed.{byteAt, halfAt, wordAt, bitAt, lengthAt, typeAt, setupAt, countAt, storedAt}
+use Rattle.script.specs.declared.command.Setup.{Setup}
+use Rattle.script.specs.declared.command.Control.{Control}
+use Rattle.script.specs.declared.command.Bulk.{Bulk}
+use Rattle.script.specs.declared.command.Stepping.{Stepping}
+use Rattle.script.specs.declared.command.Command.{Command}
+use Rattle.script.specs.declared.command.Command.the-variants.{Skipped, Wrong, Fresh, Lend, Memory, ControlIn, ControlOut, ControlNone, BulkIn, BulkOut, Buffer, StepIn, StepOut, Cancel, Open, Close, Poll, Irq, Detect, Record}
+use Rattle.script.specs.declared.bytes.OptionCount.{OptionCount}
+use Rattle.script.specs.declared.bytes.OptionCount.the-variants.{Some as Count, None as NoCount}
+use Rattle.script.specs.declared.typed.OptionByte.{OptionByte}
+use Rattle.script.specs.declared.typed.OptionByte.the-variants.{Some as Byte, None as NoByte}
+use Rattle.script.specs.declared.typed.OptionHalf.{OptionHalf}
+use Rattle.script.specs.declared.typed.OptionHalf.the-variants.{Some as Half, None as NoHalf}
+use Rattle.script.specs.declared.typed.OptionWord.{OptionWord}
+use Rattle.script.specs.declared.typed.OptionWord.the-variants.{Some as Word, None as NoWord}
+use Rattle.script.specs.declared.typed.OptionBit.{OptionBit}
+use Rattle.script.specs.declared.typed.OptionBit.the-variants.{Some as Bit, None as NoBit}
+use Rattle.script.specs.declared.typed.OptionSetup.{OptionSetup}
+use Rattle.script.specs.declared.typed.OptionSetup.the-variants.{Some as SomeSetup, None as NoSetup}
+use Rattle.script.specs.declared.calls.OptionStep.{OptionStep}
+use Rattle.script.specs.declared.calls.OptionStep.the-variants.{Some as SomeStep, None as NoStep}
+use Rattle.script.specs.declared.begins.OptionControl.{OptionControl}
+use Rattle.script.specs.declared.begins.OptionControl.the-variants.{Some as SomeControl, None as NoControl}
+use Rattle.script.specs.declared.begins.OptionBulk.{OptionBulk}
+use Rattle.script.specs.declared.begins.OptionBulk.the-variants.{Some as SomeBulk, None as NoBulk}
+
+-- What a field holds goes on; where it can't be read, the other answer stands.
+abbrev pub withByte : {A : Type 0} → OptionByte → A → (ℕ → A) → A
+withByte (Byte x) a f = f x
+withByte NoByte a f = a
+
+abbrev pub withHalf : {A : Type 0} → OptionHalf → A → (ℕ → A) → A
+withHalf (Half x) a f = f x
+withHalf NoHalf a f = a
+
+abbrev pub withWord : {A : Type 0} → OptionWord → A → (ℕ → A) → A
+withWord (Word x) a f = f x
+withWord NoWord a f = a
+
+abbrev pub withBit : {A : Type 0} → OptionBit → A → (Bool → A) → A
+withBit (Bit x) a f = f x
+withBit NoBit a f = a
+
+abbrev pub withCount : {A : Type 0} → OptionCount → A → (ℕ → A) → A
+withCount (Count x) a f = f x
+withCount NoCount a f = a
+
+abbrev pub withSetup : {A : Type 0} → OptionSetup → A → (Setup → A) → A
+withSetup (SomeSetup x) a f = f x
+withSetup NoSetup a f = a
+
+abbrev pub withStep : {A : Type 0} → OptionStep → A → (Stepping → A) → A
+withStep (SomeStep x) a f = f x
+withStep NoStep a f = a
+
+abbrev pub withControl : {A : Type 0} → OptionControl → A → (Control → A) → A
+withControl (SomeControl x) a f = f x
+withControl NoControl a f = a
+
+abbrev pub withBulk : {A : Type 0} → OptionBulk → A → (Bulk → A) → A
+withBulk (SomeBulk x) a f = f x
+withBulk NoBulk a f = a
+
+-- What a line asks for, and the lent bytes with its BYTES at their start.
+pub record Reading : Type 0 where
+  pub command : Command
+  pub stored : List ℕ
+
+abbrev pub reading : Command → List ℕ → Reading
+reading c out = record { command = c; stored = out }
+
+-- `lend PMLEN LOGLEN`.
+unfoldable pub lendOf : List ℕ → Command
+lendOf line =
+    cond (eqb (fieldsOf line) 3)
+    (withCount (lengthAt line 1 4096) Wrong λ memory.
+    (withCount (lengthAt line 2 192) Wrong λ words.
+    Lend (record { memory = memory; words = words })))
+    Wrong
+
+-- The sample of `step-in` and `step-out`.
+unfoldable pub stepOf : List ℕ → OptionStep
+stepOf line =
+    cond (eqb (fieldsOf line) 4)
+    (withWord (wordAt line 1) NoStep λ status.
+    (withWord (wordAt line 2) NoStep λ intr.
+    (withWord (wordAt line 3) NoStep λ buffers.
+    SomeStep (record { status = status; intr = intr; buffers = buffers }))))
+    NoStep
+
+-- `open ADDRESS PREAMBLE ENDPOINT SIZE INTERVAL`.
+unfoldable pub openOf : List ℕ → Command
+openOf line =
+    cond (eqb (fieldsOf line) 6)
+    (withByte (byteAt line 1) Wrong λ address.
+    (withBit (bitAt line 2) Wrong λ preamble.
+    (withByte (byteAt line 3) Wrong λ endpoint.
+    (withHalf (halfAt line 4) Wrong λ size.
+    (withByte (byteAt line 5) Wrong λ interval.
+    Open (record { address = address; preamble = preamble; endpoint = endpoint; size = size; interval = interval }))))))
+    Wrong
+
+-- `close PIPE`.
+unfoldable pub closeOf : List ℕ → Command
+closeOf line =
+    cond (eqb (fieldsOf line) 2)
+    (withByte (byteAt line 1) Wrong λ pipe.
+    Close pipe)
+    Wrong
+
+-- `poll PIPE EP_BUFFER_CONTROL HOST_ADDR_ENDP`.
+unfoldable pub pollOf : List ℕ → Command
+pollOf line =
+    cond (eqb (fieldsOf line) 4)
+    (withByte (byteAt line 1) Wrong λ pipe.
+    (withWord (wordAt line 2) Wrong λ buffer.
+    (withWord (wordAt line 3) Wrong λ target.
+    Poll (record { pipe = pipe; buffer = buffer; target = target }))))
+    Wrong
+
+-- `irq INTS BUFF_STATUS`.
+unfoldable pub irqOf : List ℕ → Command
+irqOf line =
+    cond (eqb (fieldsOf line) 3)
+    (withWord (wordAt line 1) Wrong λ ints.
+    (withWord (wordAt line 2) Wrong λ status.
+    Irq (record { ints = ints; status = status })))
+    Wrong
+
+-- `detect SIE_STATUS`.
+unfoldable pub detectOf : List ℕ → Command
+detectOf line =
+    cond (eqb (fieldsOf line) 2)
+    (withWord (wordAt line 1) Wrong λ status.
+    Detect status)
+    Wrong
+
+abbrev pub stepInOf : List ℕ → Command
+stepInOf line = withStep (stepOf line) Wrong λ s. StepIn s
+
+abbrev pub stepOutOf : List ℕ → Command
+stepOutOf line = withStep (stepOf line) Wrong λ s. StepOut s
+
+-- `pm OFFSET BYTES`: "`pm` past 4,096" can't be read.
+abbrev pub storedCommand : ℕ → ℕ → Command
+storedCommand offset count = cond (leb (offset + count) 4096) (Memory (record { offset = offset; count = count })) Wrong
+
+unfoldable pub memoryOf : List ℕ → List ℕ → Reading
+memoryOf line out =
+    cond (eqb (fieldsOf line) 3)
+    (withCount (lengthAt line 1 4096) (reading Wrong out) λ offset.
+    reading (withCount (countAt line 2) Wrong λ n. storedCommand offset n) (storedAt out line 2))
+    (reading Wrong out)
+
+-- `buffer BYTES`.
+unfoldable pub bufferOf : List ℕ → List ℕ → Reading
+bufferOf line out =
+    cond (eqb (fieldsOf line) 2)
+    (reading (withCount (countAt line 1) Wrong λ n. Buffer n) (storedAt out line 1))
+    (reading Wrong out)
+
+-- The fields that every control has, on a line of n fields.
+unfoldable pub controlOf : List ℕ → ℕ → OptionControl
+controlOf line n =
+    cond (eqb (fieldsOf line) n)
+    (withByte (byteAt line 1) NoControl λ address.
+    (withBit (bitAt line 2) NoControl λ preamble.
+    (withByte (byteAt line 3) NoControl λ size.
+    (withSetup (setupAt line 4) NoControl λ setup.
+    SomeControl (record { address = address; preamble = preamble; size = size; setup = setup; count = 0 })))))
+    NoControl
+
+-- The fields that every bulk has.
+unfoldable pub bulkOf : List ℕ → OptionBulk
+bulkOf line =
+    cond (eqb (fieldsOf line) 7)
+    (withByte (byteAt line 1) NoBulk λ address.
+    (withByte (byteAt line 2) NoBulk λ endpoint.
+    (withHalf (halfAt line 3) NoBulk λ size.
+    (withBit (typeAt line 4) NoBulk λ variable.
+    (withBit (bitAt line 5) NoBulk λ toggle.
+    SomeBulk (record { address = address; endpoint = endpoint; size = size; variable = variable; toggle = toggle; count = 0 }))))))
+    NoBulk
+
+-- A begin with its LEN, or the count of its BYTES.
+abbrev pub controlCount : Control → ℕ → Control
+controlCount c n = record { address = c .address; preamble = c .preamble; size = c .size; setup = c .setup; count = n }
+
+abbrev pub bulkCount : Bulk → ℕ → Bulk
+bulkCount b n = record { address = b .address; endpoint = b .endpoint; size = b .size; variable = b .variable; toggle = b .toggle; count = n }
+
+unfoldable pub controlInOf : List ℕ → Command
+controlInOf line = withControl (controlOf line 6) Wrong λ c. withCount (lengthAt line 5 131072) Wrong λ n. ControlIn (controlCount c n)
+
+unfoldable pub controlOutOf : List ℕ → List ℕ → Reading
+controlOutOf line out = withControl (controlOf line 6) (reading Wrong out) λ c. reading (withCount (countAt line 5) Wrong λ n. ControlOut (controlCount c n)) (storedAt out line 5)
+
+unfoldable pub controlNoneOf : List ℕ → Command
+controlNoneOf line = withControl (controlOf line 5) Wrong λ c. ControlNone c
+
+unfoldable pub bulkInOf : List ℕ → Command
+bulkInOf line = withBulk (bulkOf line) Wrong λ b. withCount (lengthAt line 6 131072) Wrong λ n. BulkIn (bulkCount b n)
+
+unfoldable pub bulkOutOf : List ℕ → List ℕ → Reading
+bulkOutOf line out = withBulk (bulkOf line) (reading Wrong out) λ b. reading (withCount (countAt line 6) Wrong λ n. BulkOut (bulkCount b n)) (storedAt out line 6)
+
+-- The calls' words, in ASCII.
+abbrev pub word-fresh : List ℕ
+word-fresh = 102 ∷ 114 ∷ 101 ∷ 115 ∷ 104 ∷ []
+
+abbrev pub word-cancel : List ℕ
+word-cancel = 99 ∷ 97 ∷ 110 ∷ 99 ∷ 101 ∷ 108 ∷ []
+
+abbrev pub word-record : List ℕ
+word-record = 114 ∷ 101 ∷ 99 ∷ 111 ∷ 114 ∷ 100 ∷ []
+
+abbrev pub word-lend : List ℕ
+word-lend = 108 ∷ 101 ∷ 110 ∷ 100 ∷ []
+
+abbrev pub word-pm : List ℕ
+word-pm = 112 ∷ 109 ∷ []
+
+abbrev pub word-buffer : List ℕ
+word-buffer = 98 ∷ 117 ∷ 102 ∷ 102 ∷ 101 ∷ 114 ∷ []
+
+abbrev pub word-control-in : List ℕ
+word-control-in = 99 ∷ 111 ∷ 110 ∷ 116 ∷ 114 ∷ 111 ∷ 108 ∷ 45 ∷ 105 ∷ 110 ∷ []
+
+abbrev pub word-control-out : List ℕ
+word-control-out = 99 ∷ 111 ∷ 110 ∷ 116 ∷ 114 ∷ 111 ∷ 108 ∷ 45 ∷ 111 ∷ 117 ∷ 116 ∷ []
+
+abbrev pub word-control-none : List ℕ
+word-control-none = 99 ∷ 111 ∷ 110 ∷ 116 ∷ 114 ∷ 111 ∷ 108 ∷ 45 ∷ 110 ∷ 111 ∷ 110 ∷ 101 ∷ []
+
+abbrev pub word-bulk-in : List ℕ
+word-bulk-in = 98 ∷ 117 ∷ 108 ∷ 107 ∷ 45 ∷ 105 ∷ 110 ∷ []
+
+abbrev pub word-bulk-out : List ℕ
+word-bulk-out = 98 ∷ 117 ∷ 108 ∷ 107 ∷ 45 ∷ 111 ∷ 117 ∷ 116 ∷ []
+
+abbrev pub word-step-in : List ℕ
+word-step-in = 115 ∷ 116 ∷ 101 ∷ 112 ∷ 45 ∷ 105 ∷ 110 ∷ []
+
+abbrev pub word-step-out : List ℕ
+word-step-out = 115 ∷ 116 ∷ 101 ∷ 112 ∷ 45 ∷ 111 ∷ 117 ∷ 116 ∷ []
+
+abbrev pub word-open : List ℕ
+word-open = 111 ∷ 112 ∷ 101 ∷ 110 ∷ []
+
+abbrev pub word-close : List ℕ
+word-close = 99 ∷ 108 ∷ 111 ∷ 115 ∷ 101 ∷ []
+
+abbrev pub word-poll : List ℕ
+word-poll = 112 ∷ 111 ∷ 108 ∷ 108 ∷ []
+
+abbrev pub word-irq : List ℕ
+word-irq = 105 ∷ 114 ∷ 113 ∷ []
+
+abbrev pub word-detect : List ℕ
+word-detect = 100 ∷ 101 ∷ 116 ∷ 101 ∷ 99 ∷ 116 ∷ []
+
+-- A line of one word.
+unfoldable pub aloneOf : List ℕ → Command
+aloneOf line = cond (sameText line word-fresh) Fresh (cond (sameText line word-cancel) Cancel (cond (sameText line word-record) Record Wrong))
+
+-- By a line's first word: the begins, the pipes, the others.
+unfoldable pub beginOf : List ℕ → List ℕ → List ℕ → Reading
+beginOf word line out =
+    cond (sameText word word-control-in) (reading (controlInOf line) out)
+    (cond (sameText word word-control-out) (controlOutOf line out)
+    (cond (sameText word word-control-none) (reading (controlNoneOf line) out)
+    (cond (sameText word word-bulk-in) (reading (bulkInOf line) out)
+    (cond (sameText word word-bulk-out) (bulkOutOf line out) (reading (aloneOf line) out)))))
+
+unfoldable pub pipeOf : List ℕ → List ℕ → Command
+pipeOf word line =
+    cond (sameText word word-open) (openOf line)
+    (cond (sameText word word-close) (closeOf line)
+    (cond (sameText word word-poll) (pollOf line)
+    (cond (sameText word word-irq) (irqOf line)
+    (cond (sameText word word-detect) (detectOf line) Wrong))))
+
+-- Whether a word is one of the pipes'.
+unfoldable pub isPipe : List ℕ → Bool
+isPipe word = sameText word word-open || (sameText word word-close || (sameText word word-poll || (sameText word word-irq || sameText word word-detect)))
+
+unfoldable pub callOf : List ℕ → List ℕ → List ℕ → Reading
+callOf word line out =
+    cond (sameText word word-step-in) (reading (stepInOf line) out)
+    (cond (sameText word word-step-out) (reading (stepOutOf line) out)
+    (cond (sameText word word-buffer) (bufferOf line out)
+    (cond (sameText word word-pm) (memoryOf line out)
+    (cond (sameText word word-lend) (reading (lendOf line) out)
+    (cond (isPipe word) (reading (pipeOf word line) out) (beginOf word line out))))))
+
+-- "Empty lines and lines that begin with `#` are skipped."
+unfoldable pub lineOf : List ℕ → List ℕ → Reading
+lineOf line out =
+    cond (eqb (length line) 0) (reading Skipped out)
+    (cond (eqb (getD line 0 0) 35) (reading Skipped out) (callOf (fieldOf line 0) line out))

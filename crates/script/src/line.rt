@@ -1,0 +1,133 @@
+// A line of a script.
+use crate::begins::read_bulk_in;
+use crate::begins::read_bulk_out;
+use crate::begins::read_control_in;
+use crate::begins::read_control_none;
+use crate::begins::read_control_out;
+use crate::calls::read_buffer;
+use crate::calls::read_close;
+use crate::calls::read_detect;
+use crate::calls::read_irq;
+use crate::calls::read_lend;
+use crate::calls::read_memory;
+use crate::calls::read_open;
+use crate::calls::read_poll;
+use crate::calls::read_step_in;
+use crate::calls::read_step_out;
+use crate::command::Command;
+use crate::field::same;
+use crate::typed::field;
+ghost use mathlib.Core.Path.{_≡_};
+ghost use Rattle.script.specs.Lines.{aloneOf, beginOf, pipeOf, isPipe, callOf, lineOf};
+
+fn read_alone(line: &[u8]) -> Command
+    ensures { λ r. ⌜ r ≡ aloneOf (now (line .entry)) ⌝ }
+{
+    if same(line, b"fresh") {
+        return Command::Fresh;
+    }
+    if same(line, b"cancel") {
+        return Command::Cancel;
+    }
+    if same(line, b"record") {
+        return Command::Record;
+    }
+    Command::Wrong
+}
+
+fn read_begin(word: &[u8], line: &[u8], out: &mut [u8; 131072]) -> Command
+    ensures { λ r. ⌜ (r ≡ beginOf (now (word .entry)) (now (line .entry)) (now (out .entry)) .command) × (now (out .exit) ≡ beginOf (now (word .entry)) (now (line .entry)) (now (out .entry)) .stored) ⌝ }
+{
+    if same(word, b"control-in") {
+        return read_control_in(line);
+    }
+    if same(word, b"control-out") {
+        return read_control_out(line, out);
+    }
+    if same(word, b"control-none") {
+        return read_control_none(line);
+    }
+    if same(word, b"bulk-in") {
+        return read_bulk_in(line);
+    }
+    if same(word, b"bulk-out") {
+        return read_bulk_out(line, out);
+    }
+    read_alone(line)
+}
+
+fn read_pipe(word: &[u8], line: &[u8]) -> Command
+    ensures { λ r. ⌜ r ≡ pipeOf (now (word .entry)) (now (line .entry)) ⌝ }
+{
+    if same(word, b"open") {
+        return read_open(line);
+    }
+    if same(word, b"close") {
+        return read_close(line);
+    }
+    if same(word, b"poll") {
+        return read_poll(line);
+    }
+    if same(word, b"irq") {
+        return read_irq(line);
+    }
+    if same(word, b"detect") {
+        return read_detect(line);
+    }
+    Command::Wrong
+}
+
+fn is_pipe(word: &[u8]) -> bool
+    ensures { λ r. ⌜ r ≡ isPipe (now (word .entry)) ⌝ }
+{
+    if same(word, b"open") {
+        return true;
+    }
+    if same(word, b"close") {
+        return true;
+    }
+    if same(word, b"poll") {
+        return true;
+    }
+    if same(word, b"irq") {
+        return true;
+    }
+    same(word, b"detect")
+}
+
+fn read_call(word: &[u8], line: &[u8], out: &mut [u8; 131072]) -> Command
+    ensures { λ r. ⌜ (r ≡ callOf (now (word .entry)) (now (line .entry)) (now (out .entry)) .command) × (now (out .exit) ≡ callOf (now (word .entry)) (now (line .entry)) (now (out .entry)) .stored) ⌝ }
+{
+    if same(word, b"step-in") {
+        return read_step_in(line);
+    }
+    if same(word, b"step-out") {
+        return read_step_out(line);
+    }
+    if same(word, b"buffer") {
+        return read_buffer(line, out);
+    }
+    if same(word, b"pm") {
+        return read_memory(line, out);
+    }
+    if same(word, b"lend") {
+        return read_lend(line);
+    }
+    if is_pipe(word) {
+        return read_pipe(word, line);
+    }
+    read_begin(word, line, out)
+}
+
+// What a line without its LF asks for. Its BYTES come at the start of those lent, which stay as they are where it has none.
+pub fn parse(line: &[u8], out: &mut [u8; 131072]) -> Command
+    ensures { λ r. ⌜ (r ≡ lineOf (now (line .entry)) (now (out .entry)) .command) × (now (out .exit) ≡ lineOf (now (line .entry)) (now (out .entry)) .stored) ⌝ }
+{
+    if line.len() == 0 {
+        return Command::Skipped;
+    }
+    if line[0] == b'#' {
+        return Command::Skipped;
+    }
+    read_call(field(line, 0), line, out)
+}
