@@ -8,14 +8,17 @@ use script::field::end_of;
 ghost use Prim.Native.Nat.{_≤_, _<_};
 ghost use lib.ListN.{length};
 
+// The record is the first n bytes.
+fn print_first(room: &[u8], n: usize) {
+    if n <= room.len() {
+        print_record(&room[..n]);
+    }
+}
+
 fn print_case(line: &[u8], room: &mut [u8; 131072]) {
     let count = bytes(line, room);
     match count {
-        OptionCount::Some(n) => {
-            if n <= 131072 {
-                print_record(&room[..n]);
-            }
-        }
+        OptionCount::Some(n) => print_first(room, n),
         OptionCount::None => {
             io::write_all(STDOUT_FILENO, b"not hexadecimal\n");
         }
@@ -42,12 +45,16 @@ fn take_line(text: &[u8], room: &mut [u8; 131072]) -> usize
     if end < text.len() { end + 1 } else { end }
 }
 
+fn print_lines(text: &[u8], room: &mut [u8; 131072]) {
+    let mut at: usize = 0;
+    while at < text.len() {
+        at += take_line(&text[at..], room);
+    }
+}
+
 fn main() {
     let mut text = [0u8; 400000];
     let mut room = [0u8; 131072];
     let n = io::read_full(STDIN_FILENO, &mut text);
-    let mut at: usize = 0;
-    while at < n {
-        at += take_line(&text[at..n], &mut room);
-    }
+    print_lines(&text[..n], &mut room);
 }
