@@ -115,7 +115,7 @@ fn replay(mut script: impl BufRead, mut out: impl Write) -> io::Result<()> {
         match script::parse(&line) {
             Ok(None) => {}
             Ok(Some(call)) => print::block(&mut out, &session.play(call))?,
-            Err(wrong) => print::unreadable(&mut out, number, &wrong)?,
+            Err(script::Unreadable) => print::unreadable(&mut out, number)?,
         }
     }
     out.flush()
