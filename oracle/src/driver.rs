@@ -192,6 +192,12 @@ impl Driver {
         )
     }
 
+    /// Another stream of the same controller.
+    #[cfg(test)]
+    pub fn detect_anew(&mut self) {
+        self.detection = self.controller.device_detect();
+    }
+
     /// Where an open pipe is. Document 01, "poll, close pipe": 17, pipe not open, or its
     /// number not 1 to 15.
     fn place(&mut self, pipe: u8) -> Result<&mut Option<Rp2040InterruptPipe>, u8> {

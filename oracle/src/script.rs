@@ -1,5 +1,7 @@
 //! The replay script's lines.
 
+use std::fmt;
+
 const LONGEST: u64 = 131_072;
 const LONGEST_LINE: usize = 300_000;
 const PACKET_MEMORY: u64 = 4096;
@@ -94,6 +96,21 @@ pub struct Step {
     pub sie_status: u32,
     pub intr: u32,
     pub buffer_control: u32,
+}
+
+impl fmt::Display for Step {
+    fn fmt(&self, f: &mut fmt::Formatter<'_>) -> fmt::Result {
+        let way = match self.way {
+            Way::In => "in",
+            Way::Out => "out",
+        };
+        let (sie_status, intr) = (self.sie_status, self.intr);
+        let buffer_control = self.buffer_control;
+        write!(
+            f,
+            "step-{way} {sie_status:#x} {intr:#x} {buffer_control:#x}"
+        )
+    }
 }
 
 #[derive(Clone, Copy, Debug, PartialEq, Eq)]

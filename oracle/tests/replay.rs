@@ -49,12 +49,6 @@ fn pipes_interrupts_and_detection() {
     check("pipes");
 }
 
-/// The smallest scripts of docs/ORACLE.md.
-#[test]
-fn where_document_01_decides() {
-    check("decided");
-}
-
 #[test]
 fn lending() {
     check("lending");
