@@ -1,6 +1,8 @@
 //! The oracle: the Rust of cotton-usb-host, run over a memory stand-in. It reads a
 //! replay script and prints what each call answers, writes and arms. docs/ORACLE.md.
 
+#[cfg(feature = "lean")]
+mod bench;
 mod bus;
 mod compare;
 mod driver;
@@ -89,7 +91,8 @@ use std::process::ExitCode;
 const USAGE: &str = "usage: oracle < SCRIPT
        oracle gen SEED CALLS well|hostile|edge|mangled
        oracle vectors
-       oracle compare REPLAY SEED CALLS";
+       oracle compare REPLAY SEED CALLS
+       oracle bench < LETTERS (with the feature lean)";
 
 fn main() -> ExitCode {
     let arguments: Vec<String> = std::env::args().skip(1).collect();
@@ -123,6 +126,8 @@ fn run(arguments: &[&str]) -> Option<io::Result<bool>> {
             let (seed, calls) = (seed.parse().ok()?, calls.parse().ok()?);
             compare::compare(program, seed, calls, &mut out)
         }
+        #[cfg(feature = "lean")]
+        ["bench"] => bench::bench(io::stdin().lock(), &mut out).map(|()| true),
         _ => return None,
     })
 }

@@ -23,9 +23,9 @@ impl<W: Write> Vectors<W> {
         for (i, length) in lengths(size).into_iter().chain([3 * size + 1]).enumerate() {
             let toggle = i as u32 % 2;
             self.line(&bulk(way, size, kind, toggle, length))?;
-            self.to_the_end(2, length)?;
+            self.finish(2, length)?;
             self.line(&bulk(way, size, kind, 1 - toggle, length))?;
-            self.to_the_end(1, length)?;
+            self.finish(1, length)?;
         }
         self.line("record")
     }
@@ -51,7 +51,7 @@ impl<W: Write> Vectors<W> {
             for toggle in [0, 1] {
                 self.case(&format!("bulk In of 40 at 8: the device sends {sent}"))?;
                 self.line(&bulk(Way::In, 8, "variable", toggle, 40))?;
-                self.to_the_end(2, sent)?;
+                self.finish(2, sent)?;
             }
         }
         Ok(())
@@ -62,7 +62,7 @@ impl<W: Write> Vectors<W> {
         for size in [63, 64] {
             self.case(&format!("bulk In of 65,535 at {size}, to the end"))?;
             self.line(&bulk(Way::In, size, "variable", 1, 65_535))?;
-            self.to_the_end(2, 65_535)?;
+            self.finish(2, 65_535)?;
         }
         Ok(())
     }

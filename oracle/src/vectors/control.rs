@@ -18,9 +18,9 @@ impl<W: Write> Vectors<W> {
         self.case(&format!("control In and Out at {size}, every length"))?;
         for length in lengths(size).into_iter().chain([3 * size + 1]) {
             self.line(&control_in(size, length, length))?;
-            self.to_the_end(2, length)?;
+            self.finish(2, length)?;
             self.line(&control_out(size, length, length))?;
-            self.to_the_end(1, 0)?;
+            self.finish(1, 0)?;
         }
         self.line("record")
     }
@@ -41,9 +41,9 @@ impl<W: Write> Vectors<W> {
         ] {
             self.case(&format!("control: wLength {asked}, {lent} lent"))?;
             self.line(&control_in(8, asked, lent))?;
-            self.to_the_end(2, asked)?;
+            self.finish(2, asked)?;
             self.line(&control_out(8, asked, lent))?;
-            self.to_the_end(2, 0)?;
+            self.finish(2, 0)?;
             self.line("record")?;
         }
         // More than asked for is not kept.
@@ -61,7 +61,7 @@ impl<W: Write> Vectors<W> {
         for length in [0, 5, 65_535] {
             self.case(&format!("control None: wLength {length}"))?;
             self.line(&format!("control-none 9 1 8 {}", setup(0x21, length)))?;
-            self.to_the_end(1, 0)?;
+            self.finish(1, 0)?;
             self.line("record")?;
         }
         Ok(())
@@ -80,7 +80,7 @@ impl<W: Write> Vectors<W> {
             "bulk-in 7 8 1 variable 1 0",
         ] {
             self.line(begin)?;
-            self.to_the_end(2, 64)?;
+            self.finish(2, 64)?;
         }
         self.line("record")
     }
@@ -122,5 +122,5 @@ fn control_out(size: u32, asked: u32, lent: u32) -> String {
 /// A SETUP with this bmRequestType and wLength.
 fn setup(kind: u8, length: u32) -> String {
     let [low, high, ..] = length.to_le_bytes();
-    format!("{kind:02x}09000100 00{low:02x}{high:02x}").replace(' ', "")
+    format!("{kind:02x}0900010000{low:02x}{high:02x}")
 }

@@ -72,7 +72,7 @@ impl<W: Write> Vectors<W> {
 
     /// A sound device acts on up to so many packets before each step, until the
     /// transfer ends. It has `left` bytes to send.
-    fn to_the_end(&mut self, packets: usize, mut left: u32) -> io::Result<()> {
+    fn finish(&mut self, packets: usize, mut left: u32) -> io::Result<()> {
         let mut sent = 0;
         while let Some(under_way) = self.player.under_way {
             let (sie_status, intr) = self.player.device_acts(packets, |armed| {

@@ -17,9 +17,9 @@ impl<W: Write> Vectors<W> {
     fn full_record(&mut self) -> io::Result<()> {
         self.case("record: bulk Out of 65,535 at 64, of 54,222 at 63: exactly full")?;
         self.line(&bulk(Way::Out, 64, "variable", 1, 65_535))?;
-        self.to_the_end(2, 0)?;
+        self.finish(2, 0)?;
         self.line(&bulk(Way::Out, 63, "fixed", 0, 54_222))?;
-        self.to_the_end(2, 0)?;
+        self.finish(2, 0)?;
         self.lines(&[
             "record",
             "# record: one more packet",

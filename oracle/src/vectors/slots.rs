@@ -12,16 +12,15 @@ const LENGTHS: u32 = SIZE << 16 | SIZE;
 /// The slots' bytes as a device may have left them.
 const BYTES: &str = "pm 0x180 seq:128:100:1";
 
-/// Where a bulk transfer stands: its length, and EP_BUFFER_CONTROL of the steps so far.
+/// Where a bulk transfer stands: its length, and EP_BUFFER_CONTROL of the steps so far,
+/// as for IN.
 struct Standing {
     name: &'static str,
     length: u32,
     steps: &'static [u32],
 }
 
-/// An IN slot is retired if it is full, and an OUT slot if it isn't; both are armed again
-/// if they aren't available.
-const IN: [Standing; 5] = [
+const STANDINGS: [Standing; 5] = [
     Standing {
         name: "two in flight, more to come",
         length: 5 * SIZE,
@@ -52,7 +51,7 @@ const IN: [Standing; 5] = [
 impl<W: Write> Vectors<W> {
     pub fn slots(&mut self) -> io::Result<()> {
         for way in [Way::In, Way::Out] {
-            for standing in &IN {
+            for standing in &STANDINGS {
                 self.flags(way, standing)?;
             }
         }
@@ -68,7 +67,7 @@ impl<W: Write> Vectors<W> {
             self.line(BYTES)?;
         }
         for sample in standing.steps {
-            // What is full for IN is empty for OUT.
+            // An IN slot is retired if it is full, an OUT slot if it isn't.
             let sample = if way == Way::In {
                 *sample
             } else {
