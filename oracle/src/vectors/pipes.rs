@@ -1,5 +1,6 @@
 //! Interrupt pipes, the interrupt routine and detection.
 
+use super::slots::all_flags;
 use super::Vectors;
 use std::io::{self, Write};
 
@@ -93,10 +94,13 @@ impl<W: Write> Vectors<W> {
         Ok(())
     }
 
-    /// Every bit of the two registers alone, with and without FULL.
+    /// Both slots' flags, and every bit of the two registers alone, with and without FULL.
     fn poll_samples(&mut self) -> io::Result<()> {
-        self.case("poll: every bit of its registers")?;
+        self.case("poll: all flags, every bit of its registers")?;
         self.lines(&["open 1 0 1 8 1", "pm 0x280 seq:128:1:1"])?;
+        for flags in all_flags() {
+            self.line(&format!("poll 1 {:#x} 0x00010001", flags | 0x0003_0005))?;
+        }
         for bit in 0..32 {
             let bit = 1u32 << bit;
             self.line(&format!("poll 1 {bit:#x} 0"))?;

@@ -151,7 +151,7 @@ impl<W: Write> Vectors<W> {
 }
 
 /// AVAILABLE and FULL of both slots in all combinations.
-fn all_flags() -> impl Iterator<Item = u32> {
+pub fn all_flags() -> impl Iterator<Item = u32> {
     let half = |bits: u32| (bits & 1) << 10 | (bits >> 1 & 1) << 15;
     (0..16).map(move |bits| half(bits) | half(bits >> 2) << 16)
 }
