@@ -58,7 +58,8 @@ fn played_by(program: &str, script: &[u8]) -> io::Result<Output> {
     let mut child = Command::new(program)
         .stdin(Stdio::piped())
         .stdout(Stdio::piped())
-        .spawn()?;
+        .spawn()
+        .map_err(|error| io::Error::new(error.kind(), format!("{program}: {error}")))?;
     let mut input = child.stdin.take().expect("it is piped");
     thread::scope(|scope| {
         // A program that ends early shows by its output.
