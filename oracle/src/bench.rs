@@ -174,12 +174,7 @@ fn setup(kind: u8, request: u8, length: u16) -> SetupPacket {
 }
 
 fn sample(sie_status: u32, intr: u32, buffer_control: u32) -> Step {
-    Step {
-        way: Way::In,
-        sie_status,
-        intr,
-        buffer_control,
-    }
+    Step::new(Way::In, sie_status, intr, buffer_control)
 }
 
 fn moved(sie_status: u32, buffer_control: u32) -> Step {

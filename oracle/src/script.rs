@@ -98,6 +98,17 @@ pub struct Step {
     pub buffer_control: u32,
 }
 
+impl Step {
+    pub fn new(way: Way, sie_status: u32, intr: u32, buffer_control: u32) -> Self {
+        Self {
+            way,
+            sie_status,
+            intr,
+            buffer_control,
+        }
+    }
+}
+
 impl fmt::Display for Step {
     fn fmt(&self, f: &mut fmt::Formatter<'_>) -> fmt::Result {
         let way = match self.way {
@@ -236,12 +247,8 @@ impl<'a> Fields<'a> {
     }
 
     fn step(&mut self, way: Way) -> Read<Line> {
-        Ok(Line::Step(Step {
-            way,
-            sie_status: self.register()?,
-            intr: self.register()?,
-            buffer_control: self.register()?,
-        }))
+        let mut word = || self.register();
+        Ok(Line::Step(Step::new(way, word()?, word()?, word()?)))
     }
 
     fn word(&mut self) -> Read<&'a str> {

@@ -76,17 +76,11 @@ impl<W: Write> Generator<W> {
     pub fn step(
         &mut self,
         way: Way,
-        sie_status: u32,
+        status: u32,
         intr: u32,
-        buffer_control: u32,
+        buffers: u32,
     ) -> io::Result<()> {
-        let step = Step {
-            way,
-            sie_status,
-            intr,
-            buffer_control,
-        };
-        self.line(&step.to_string())
+        self.line(&Step::new(way, status, intr, buffers).to_string())
     }
 
     /// A step with everything at random, around what could matter.

@@ -54,20 +54,8 @@ impl<W: Write> Vectors<W> {
         self.line("fresh")
     }
 
-    fn step(
-        &mut self,
-        way: Way,
-        sie_status: u32,
-        intr: u32,
-        buffer_control: u32,
-    ) -> io::Result<()> {
-        let step = Step {
-            way,
-            sie_status,
-            intr,
-            buffer_control,
-        };
-        self.line(&step.to_string())
+    fn step(&mut self, way: Way, status: u32, intr: u32, buffers: u32) -> io::Result<()> {
+        self.line(&Step::new(way, status, intr, buffers).to_string())
     }
 
     /// A sound device acts on up to so many packets before each step, until the
