@@ -33,6 +33,9 @@ impl<W: Write> Vectors<W> {
             (7, 8),
             (8, 7),
             (8, 9),
+            (8, 16),
+            (15, 16),
+            (15, 40),
             (16, 17),
             (17, 16),
             (17, 17),
@@ -41,9 +44,9 @@ impl<W: Write> Vectors<W> {
         ] {
             self.case(&format!("control: wLength {asked}, {lent} lent"))?;
             self.line(&control_in(8, asked, lent))?;
-            self.finish(2, asked)?;
+            self.finish(1, asked)?;
             self.line(&control_out(8, asked, lent))?;
-            self.finish(2, 0)?;
+            self.finish(1, 0)?;
             self.line("record")?;
         }
         // More than asked for is not kept.
