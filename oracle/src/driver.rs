@@ -41,16 +41,26 @@ pub struct Driver {
 const REGS: USBCTRL_REGS = USBCTRL_REGS;
 const DPRAM: USBCTRL_DPRAM = USBCTRL_DPRAM;
 
+/// A controller. What the Rust borrows for ever is leaked, some hundred bytes.
+pub fn controller() -> (&'static Rp2040HostController, &'static UsbShared) {
+    let mut resets = unsafe { RESETS::steal() };
+    let shared: &UsbShared = Box::leak(Box::new(UsbShared::new()));
+    let statics: &UsbStatics = Box::leak(Box::new(UsbStatics::new()));
+    let new = Rp2040HostController::new(&mut resets, REGS, DPRAM, shared, statics);
+    (Box::leak(Box::new(new)), shared)
+}
+
+/// The registers show a step's sample.
+pub fn show(step: &Step) {
+    REGS.sie_status().sample(step.sie_status);
+    REGS.intr().sample(step.intr);
+    DPRAM.ep_buffer_control(0).sample(step.buffer_control);
+}
+
 impl Driver {
-    /// Registers and packet memory are all 0. What the Rust borrows for ever is leaked,
-    /// some hundred bytes.
+    /// Registers and packet memory are all 0.
     pub fn fresh() -> Self {
-        let mut resets = unsafe { RESETS::steal() };
-        let shared: &UsbShared = Box::leak(Box::new(UsbShared::new()));
-        let statics: &UsbStatics = Box::leak(Box::new(UsbStatics::new()));
-        let controller: &Rp2040HostController = Box::leak(Box::new(
-            Rp2040HostController::new(&mut resets, REGS, DPRAM, shared, statics),
-        ));
+        let (controller, shared) = controller();
         // Document 01: the register writes of `new` stay with the glue.
         memory::clear();
         Self {
@@ -94,10 +104,7 @@ impl Driver {
             check(own.len() == transfer.buffer.len(), rules::LENT)?;
         }
 
-        REGS.sie_status().sample(step.sie_status);
-        REGS.intr().sample(step.intr);
-        DPRAM.ep_buffer_control(0).sample(step.buffer_control);
-
+        show(step);
         let kept = transfer.buffer.bytes();
         let before = own.unwrap_or(&kept);
         transfer.buffer.fill(before);
@@ -190,6 +197,12 @@ impl Driver {
                 Poll::Pending => Answer::Waiting { again: false },
             },
         )
+    }
+
+    /// Another stream of the same controller.
+    #[cfg(test)]
+    pub fn detect_anew(&mut self) {
+        self.detection = self.controller.device_detect();
     }
 
     /// Where an open pipe is. Document 01, "poll, close pipe": 17, pipe not open, or its

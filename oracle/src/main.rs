@@ -1,9 +1,14 @@
 //! The oracle: the Rust of cotton-usb-host, run over a memory stand-in. It reads a
 //! replay script and prints what each call answers, writes and arms. docs/ORACLE.md.
 
+#[cfg(feature = "lean")]
+mod bench;
+mod bus;
+mod compare;
 mod driver;
 mod generate;
 mod lent_buffer;
+mod player;
 mod print;
 mod record;
 mod rng;
@@ -13,6 +18,7 @@ mod script;
 mod session;
 mod standins;
 mod transfer;
+mod vectors;
 
 // The Rust, as build.rs left it. It finds its own crates' names among the stand-ins.
 
@@ -26,6 +32,13 @@ mod bitset {
 #[allow(dead_code)]
 mod async_pool {
     include!(concat!(env!("OUT_DIR"), "/async_pool.rs"));
+
+    #[cfg(test)]
+    pub mod view {
+        pub fn free(pool: &super::Pool, index: u8) {
+            pool.dealloc_internal(index);
+        }
+    }
 }
 
 #[allow(dead_code)]
@@ -62,6 +75,13 @@ mod rp2040 {
             }
             (pipes, shared.device_waker.take_woken())
         }
+
+        #[cfg(test)]
+        pub fn variable_size_packets_of_0(bytes: &[u8]) {
+            use super::{OutPacketiser, ZeroLengthPacket};
+            let length = bytes.len() as u16;
+            OutPacketiser::new(length, 0, bytes, false, ZeroLengthPacket::AsNeeded);
+        }
     }
 }
 
@@ -69,35 +89,47 @@ use std::io::{self, BufRead, Write};
 use std::process::ExitCode;
 
 const USAGE: &str = "usage: oracle < SCRIPT
-       oracle gen SEED CALLS well|hostile|edge";
+       oracle gen SEED CALLS well|hostile|edge|mangled
+       oracle vectors
+       oracle compare REPLAY SEED CALLS
+       oracle bench < LETTERS (with the feature lean)";
 
 fn main() -> ExitCode {
     let arguments: Vec<String> = std::env::args().skip(1).collect();
     let arguments: Vec<&str> = arguments.iter().map(String::as_str).collect();
-    let done = match arguments[..] {
-        [] => replay(io::stdin().lock(), io::BufWriter::new(io::stdout().lock())),
-        ["gen", seed, calls, kind] => {
-            let (Ok(seed), Ok(calls), Some(kind)) =
-                (seed.parse(), calls.parse(), generate::Kind::named(kind))
-            else {
-                eprintln!("{USAGE}");
-                return ExitCode::from(2);
-            };
-            let out = io::BufWriter::new(io::stdout().lock());
-            generate::generate(seed, calls, kind, out)
-        }
-        _ => {
-            eprintln!("{USAGE}");
-            return ExitCode::from(2);
-        }
-    };
-    match done {
-        Ok(()) => ExitCode::SUCCESS,
-        Err(error) => {
+    match run(&arguments) {
+        Some(Ok(true)) => ExitCode::SUCCESS,
+        Some(Ok(false)) => ExitCode::FAILURE,
+        Some(Err(error)) => {
             eprintln!("oracle: {error}");
             ExitCode::FAILURE
         }
+        None => {
+            eprintln!("{USAGE}");
+            ExitCode::from(2)
+        }
     }
+}
+
+/// What the arguments ask for: whether all went well, or nothing if they are bad.
+fn run(arguments: &[&str]) -> Option<io::Result<bool>> {
+    let mut out = io::BufWriter::new(io::stdout().lock());
+    Some(match *arguments {
+        [] => replay(io::stdin().lock(), out).map(|()| true),
+        ["gen", seed, calls, kind] => {
+            let kind = generate::Kind::named(kind)?;
+            let (seed, calls) = (seed.parse().ok()?, calls.parse().ok()?);
+            generate::generate(seed, calls, kind, out).map(|_| true)
+        }
+        ["vectors"] => vectors::vectors(out).map(|()| true),
+        ["compare", program, seed, calls] => {
+            let (seed, calls) = (seed.parse().ok()?, calls.parse().ok()?);
+            compare::compare(program, seed, calls, &mut out)
+        }
+        #[cfg(feature = "lean")]
+        ["bench"] => bench::bench(io::stdin().lock(), &mut out).map(|()| true),
+        _ => return None,
+    })
 }
 
 /// Plays a script line by line.
@@ -115,7 +147,7 @@ fn replay(mut script: impl BufRead, mut out: impl Write) -> io::Result<()> {
         match script::parse(&line) {
             Ok(None) => {}
             Ok(Some(call)) => print::block(&mut out, &session.play(call))?,
-            Err(wrong) => print::unreadable(&mut out, number, &wrong)?,
+            Err(script::Unreadable) => print::unreadable(&mut out, number)?,
         }
     }
     out.flush()

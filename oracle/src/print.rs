@@ -16,8 +16,8 @@ pub fn block(out: &mut impl Write, block: &Block) -> io::Result<()> {
     writeln!(out, ".")
 }
 
-pub fn unreadable(out: &mut impl Write, number: u64, wrong: &str) -> io::Result<()> {
-    writeln!(out, "line {number}: {wrong}")?;
+pub fn unreadable(out: &mut impl Write, number: u64) -> io::Result<()> {
+    writeln!(out, "line {number}: not a line of a script")?;
     writeln!(out, ".")
 }
 

@@ -11,7 +11,7 @@ pub const ADDR_ENDP: u32 = 0x5011_0000;
 pub const SIE_CTRL: u32 = 0x5011_004c;
 
 const START_TRANS: u32 = 1;
-const SEND_SETUP: u32 = 2;
+pub const SEND_SETUP: u32 = 2;
 const AVAILABLE: u32 = 1 << 10;
 const FULL: u32 = 1 << 15;
 

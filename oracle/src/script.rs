@@ -1,6 +1,9 @@
 //! The replay script's lines.
 
+use std::fmt;
+
 const LONGEST: u64 = 131_072;
+const LONGEST_LINE: usize = 300_000;
 const PACKET_MEMORY: u64 = 4096;
 const LOG: u64 = 192;
 
@@ -95,6 +98,32 @@ pub struct Step {
     pub buffer_control: u32,
 }
 
+impl Step {
+    pub fn new(way: Way, sie_status: u32, intr: u32, buffer_control: u32) -> Self {
+        Self {
+            way,
+            sie_status,
+            intr,
+            buffer_control,
+        }
+    }
+}
+
+impl fmt::Display for Step {
+    fn fmt(&self, f: &mut fmt::Formatter<'_>) -> fmt::Result {
+        let way = match self.way {
+            Way::In => "in",
+            Way::Out => "out",
+        };
+        let (sie_status, intr) = (self.sie_status, self.intr);
+        let buffer_control = self.buffer_control;
+        write!(
+            f,
+            "step-{way} {sie_status:#x} {intr:#x} {buffer_control:#x}"
+        )
+    }
+}
+
 #[derive(Clone, Copy, Debug, PartialEq, Eq)]
 pub struct Open {
     pub address: u8,
@@ -111,29 +140,37 @@ pub struct Poll {
     pub host_addr_endp: u32,
 }
 
-/// A line without its LF: what it asks for, nothing if it is skipped, or what is wrong.
-pub fn parse(line: &[u8]) -> Result<Option<Line>, String> {
+#[derive(Clone, Copy, Debug, PartialEq, Eq)]
+pub struct Unreadable;
+
+type Read<T> = Result<T, Unreadable>;
+
+/// A line without its LF: what it asks for, or nothing if it is skipped.
+pub fn parse(line: &[u8]) -> Read<Option<Line>> {
     if line.is_empty() || line[0] == b'#' {
         return Ok(None);
     }
-    let line = std::str::from_utf8(line).map_err(|_| "not plain text")?;
+    if line.len() > LONGEST_LINE {
+        return Err(Unreadable);
+    }
+    let line = std::str::from_utf8(line).map_err(|_| Unreadable)?;
     let mut fields = Fields(line.split(' '));
     let call = fields.line()?;
     match fields.0.next() {
         None => Ok(Some(call)),
-        Some(_) => Err("too many fields".to_string()),
+        Some(_) => Err(Unreadable),
     }
 }
 
 struct Fields<'a>(std::str::Split<'a, char>);
 
 impl<'a> Fields<'a> {
-    fn line(&mut self) -> Result<Line, String> {
+    fn line(&mut self) -> Read<Line> {
         Ok(match self.word()? {
             "fresh" => Line::Fresh,
             "lend" => Line::Lend {
-                packet_memory: self.number("PMLEN", PACKET_MEMORY)? as usize,
-                log: self.number("LOGLEN", LOG)? as usize,
+                packet_memory: self.number(PACKET_MEMORY)? as usize,
+                log: self.number(LOG)? as usize,
             },
             "pm" => self.packet_memory()?,
             "control-in" => self.control(|fields| Ok(Data::In(fields.length()?)))?,
@@ -146,35 +183,35 @@ impl<'a> Fields<'a> {
             "step-out" => self.step(Way::Out)?,
             "cancel" => Line::Cancel,
             "open" => Line::Open(Open {
-                address: self.byte("ADDRESS")?,
-                preamble: self.bit("PREAMBLE")?,
-                endpoint: self.byte("ENDPOINT")?,
+                address: self.byte()?,
+                preamble: self.bit()?,
+                endpoint: self.byte()?,
                 size: self.size()?,
-                interval: self.byte("INTERVAL")?,
+                interval: self.byte()?,
             }),
-            "close" => Line::Close(self.byte("PIPE")?),
+            "close" => Line::Close(self.byte()?),
             "poll" => Line::Poll(Poll {
-                pipe: self.byte("PIPE")?,
-                buffer_control: self.register("EP_BUFFER_CONTROL")?,
-                host_addr_endp: self.register("HOST_ADDR_ENDP")?,
+                pipe: self.byte()?,
+                buffer_control: self.register()?,
+                host_addr_endp: self.register()?,
             }),
             "irq" => Line::Irq {
-                ints: self.register("INTS")?,
-                buff_status: self.register("BUFF_STATUS")?,
+                ints: self.register()?,
+                buff_status: self.register()?,
             },
             "detect" => Line::Detect {
-                sie_status: self.register("SIE_STATUS")?,
+                sie_status: self.register()?,
             },
             "record" => Line::Record,
-            word => return Err(format!("no call '{word}'")),
+            _ => return Err(Unreadable),
         })
     }
 
-    fn packet_memory(&mut self) -> Result<Line, String> {
-        let offset = self.number("OFFSET", PACKET_MEMORY)?;
+    fn packet_memory(&mut self) -> Read<Line> {
+        let offset = self.number(PACKET_MEMORY)?;
         let bytes = self.bytes()?;
         if offset + bytes.len() as u64 > PACKET_MEMORY {
-            return Err("past packet memory".to_string());
+            return Err(Unreadable);
         }
         Ok(Line::PacketMemory {
             offset: offset as usize,
@@ -182,105 +219,93 @@ impl<'a> Fields<'a> {
         })
     }
 
-    fn control(
-        &mut self,
-        data: impl Fn(&mut Self) -> Result<Data, String>,
-    ) -> Result<Line, String> {
+    fn control(&mut self, data: impl Fn(&mut Self) -> Read<Data>) -> Read<Line> {
         Ok(Line::Begin(Begin::Control {
-            address: self.byte("ADDRESS")?,
-            preamble: self.bit("PREAMBLE")?,
-            size: self.byte("SIZE")?,
+            address: self.byte()?,
+            preamble: self.bit()?,
+            size: self.byte()?,
             setup: hexadecimal(self.word()?)
                 .and_then(|bytes| bytes.try_into().ok())
-                .ok_or("SETUP is not 8 bytes")?,
+                .ok_or(Unreadable)?,
             data: data(self)?,
         }))
     }
 
-    fn bulk(
-        &mut self,
-        data: impl Fn(&mut Self) -> Result<Data, String>,
-    ) -> Result<Line, String> {
+    fn bulk(&mut self, data: impl Fn(&mut Self) -> Read<Data>) -> Read<Line> {
         Ok(Line::Begin(Begin::Bulk {
-            address: self.byte("ADDRESS")?,
-            endpoint: self.byte("ENDPOINT")?,
+            address: self.byte()?,
+            endpoint: self.byte()?,
             size: self.size()?,
             variable: match self.word()? {
                 "fixed" => false,
                 "variable" => true,
-                word => return Err(format!("no TYPE '{word}'")),
+                _ => return Err(Unreadable),
             },
-            toggle: self.bit("TOGGLE")?,
+            toggle: self.bit()?,
             data: data(self)?,
         }))
     }
 
-    fn step(&mut self, way: Way) -> Result<Line, String> {
-        Ok(Line::Step(Step {
-            way,
-            sie_status: self.register("SIE_STATUS")?,
-            intr: self.register("INTR")?,
-            buffer_control: self.register("EP_BUFFER_CONTROL")?,
-        }))
+    fn step(&mut self, way: Way) -> Read<Line> {
+        let mut word = || self.register();
+        Ok(Line::Step(Step::new(way, word()?, word()?, word()?)))
     }
 
-    fn word(&mut self) -> Result<&'a str, String> {
-        self.0.next().ok_or("too few fields".to_string())
+    fn word(&mut self) -> Read<&'a str> {
+        self.0.next().ok_or(Unreadable)
     }
 
-    fn number(&mut self, name: &str, most: u64) -> Result<u64, String> {
-        number(self.word()?, name, most)
+    fn number(&mut self, most: u64) -> Read<u64> {
+        number(self.word()?, most)
     }
 
-    fn byte(&mut self, name: &str) -> Result<u8, String> {
-        Ok(self.number(name, u8::MAX.into())? as u8)
+    fn byte(&mut self) -> Read<u8> {
+        Ok(self.number(u8::MAX.into())? as u8)
     }
 
-    fn size(&mut self) -> Result<u16, String> {
-        Ok(self.number("SIZE", u16::MAX.into())? as u16)
+    fn size(&mut self) -> Read<u16> {
+        Ok(self.number(u16::MAX.into())? as u16)
     }
 
-    fn bit(&mut self, name: &str) -> Result<bool, String> {
-        Ok(self.number(name, 1)? == 1)
+    fn bit(&mut self) -> Read<bool> {
+        Ok(self.number(1)? == 1)
     }
 
-    fn register(&mut self, name: &str) -> Result<u32, String> {
-        Ok(self.number(name, u32::MAX.into())? as u32)
+    fn register(&mut self) -> Read<u32> {
+        Ok(self.number(u32::MAX.into())? as u32)
     }
 
-    fn length(&mut self) -> Result<usize, String> {
-        Ok(self.number("LEN", LONGEST)? as usize)
+    fn length(&mut self) -> Read<usize> {
+        Ok(self.number(LONGEST)? as usize)
     }
 
-    fn bytes(&mut self) -> Result<Vec<u8>, String> {
+    fn bytes(&mut self) -> Read<Vec<u8>> {
         bytes(self.word()?)
     }
 }
 
-fn number(word: &str, name: &str, most: u64) -> Result<u64, String> {
+fn number(word: &str, most: u64) -> Read<u64> {
     let (digits, base) = match word.strip_prefix("0x") {
         Some(digits) => (digits, 16),
         None => (word, 10),
     };
     if digits.is_empty() {
-        return Err(format!("{name} is no number"));
+        return Err(Unreadable);
     }
     let mut value = 0u64;
     for digit in digits.chars() {
-        let digit = digit
-            .to_digit(base)
-            .ok_or_else(|| format!("{name} is no number"))?;
+        let digit = digit.to_digit(base).ok_or(Unreadable)?;
         value = value
             .saturating_mul(base.into())
             .saturating_add(digit.into());
     }
-    if value > most {
-        return Err(format!("{name} is above {most}"));
+    match value <= most {
+        true => Ok(value),
+        false => Err(Unreadable),
     }
-    Ok(value)
 }
 
-fn bytes(word: &str) -> Result<Vec<u8>, String> {
+fn bytes(word: &str) -> Read<Vec<u8>> {
     if word == "-" {
         return Ok(Vec::new());
     }
@@ -288,22 +313,19 @@ fn bytes(word: &str) -> Result<Vec<u8>, String> {
         return self::sequence(sequence);
     }
     match hexadecimal(word) {
-        Some(bytes) if bytes.len() as u64 > LONGEST => {
-            Err(format!("BYTES are more than {LONGEST}"))
-        }
-        Some(bytes) if !bytes.is_empty() => Ok(bytes),
-        _ => Err("BYTES are no hexadecimal pairs".to_string()),
+        Some(bytes) if (1..=LONGEST).contains(&(bytes.len() as u64)) => Ok(bytes),
+        _ => Err(Unreadable),
     }
 }
 
-fn sequence(word: &str) -> Result<Vec<u8>, String> {
+fn sequence(word: &str) -> Read<Vec<u8>> {
     let parts: Vec<&str> = word.split(':').collect();
     let [length, start, step] = parts[..] else {
-        return Err("seq has not three numbers".to_string());
+        return Err(Unreadable);
     };
-    let length = number(length, "LEN", LONGEST)?;
-    let start = number(start, "START", u8::MAX.into())?;
-    let step = number(step, "STEP", u8::MAX.into())?;
+    let length = number(length, LONGEST)?;
+    let start = number(start, u8::MAX.into())?;
+    let step = number(step, u8::MAX.into())?;
     Ok((0..length)
         .map(|i| (start + step * i + i / 256) as u8)
         .collect())
@@ -376,6 +398,14 @@ mod tests {
         ] {
             assert!(wrong(line), "{line}");
         }
+    }
+
+    #[test]
+    fn reads_lines_up_to_the_longest() {
+        let line = |length: usize| format!("close {}", "0".repeat(length - 6));
+        assert!(!wrong(&line(LONGEST_LINE)));
+        assert!(wrong(&line(LONGEST_LINE + 1)));
+        assert_eq!(parse(&[b'#'; LONGEST_LINE + 1]), Ok(None));
     }
 
     #[test]

@@ -49,12 +49,6 @@ fn pipes_interrupts_and_detection() {
     check("pipes");
 }
 
-/// The smallest scripts of docs/ORACLE.md.
-#[test]
-fn where_document_01_decides() {
-    check("decided");
-}
-
 #[test]
 fn lending() {
     check("lending");
@@ -85,8 +79,32 @@ fn bad_arguments_are_refused() {
         &["gen"][..],
         &["gen", "1", "1", "worse"],
         &["gen", "x", "1", "well"],
+        &["vectors", "1"],
+        &["compare", "cat", "1"],
+        &["compare", "cat", "1", "x"],
         &["play"],
     ] {
         assert_eq!(oracle(arguments, &script).status.code(), Some(2));
     }
+}
+
+/// The oracle plays every script as itself.
+#[test]
+fn compares_equal_with_itself() {
+    let script = scripts().join("golden.script");
+    let own = env!("CARGO_BIN_EXE_oracle");
+    let output = oracle(&["compare", own, "1", "2000"], &script);
+    let text = String::from_utf8(output.stdout).unwrap();
+    assert!(output.status.success(), "{text}");
+    assert_eq!(text.lines().count(), 5);
+    assert!(text.ends_with(" calls, 0 differences\n"), "{text}");
+}
+
+#[test]
+fn a_comparison_ends_at_the_first_difference() {
+    let script = scripts().join("golden.script");
+    let output = oracle(&["compare", "cat", "1", "2000"], &script);
+    let text = String::from_utf8(output.stdout).unwrap();
+    assert_eq!(output.status.code(), Some(1));
+    assert!(text.starts_with("well 1: 500 calls, different\nscript line 1: fresh\n"));
 }

@@ -1,12 +1,13 @@
 //! Scripts of refused calls and limits.
 
-use super::{Generator, UnderWay};
+use super::Generator;
+use crate::player::UnderWay;
 use crate::script::Way;
 use std::io::{self, Write};
 
 impl<W: Write> Generator<W> {
     pub fn edge(&mut self) -> io::Result<()> {
-        let under_way = self.under_way.unwrap_or(UnderWay {
+        let under_way = self.player.under_way.unwrap_or(UnderWay {
             way: self.rng.pick(&[Way::In, Way::Out]),
             size: 8,
             length: 0,
@@ -74,7 +75,7 @@ impl<W: Write> Generator<W> {
         }
     }
 
-    fn any_begin(&mut self) -> io::Result<()> {
+    pub fn any_begin(&mut self) -> io::Result<()> {
         let (address, endpoint, size) =
             (self.address(), self.endpoint(), self.any_size());
         let length = self.any_length(size);
@@ -99,7 +100,7 @@ impl<W: Write> Generator<W> {
         self.line(&text)
     }
 
-    fn any_open(&mut self) -> io::Result<()> {
+    pub fn any_open(&mut self) -> io::Result<()> {
         let (address, endpoint, size) =
             (self.address(), self.endpoint(), self.any_size());
         let preamble = self.rng.below(2);
@@ -123,7 +124,7 @@ impl<W: Write> Generator<W> {
     }
 
     /// A few calls that are lent too little.
-    fn short_loan(&mut self) -> io::Result<()> {
+    pub fn short_loan(&mut self) -> io::Result<()> {
         let packet_memory = self.rng.pick(&[0, 1, 4095, 4096, 4096]);
         let log = self.rng.pick(&[0, 1, 54, 191, 192, 192]);
         self.line(&format!("lend {packet_memory} {log}"))?;
@@ -143,7 +144,7 @@ impl<W: Write> Generator<W> {
 
     /// The longest transfers, with a sound device; two OUTs fill the record.
     fn long_transfers(&mut self) -> io::Result<()> {
-        if self.under_way.is_some() {
+        if self.player.under_way.is_some() {
             self.line("cancel")?;
         }
         for _ in 0..self.rng.pick(&[1, 2, 3]) {
@@ -157,9 +158,9 @@ impl<W: Write> Generator<W> {
                 _ => format!("bulk-out 127 15 64 {kind} 0 seq:65472:0:1"),
             };
             self.line(&text)?;
-            while let Some(under_way) = self.under_way {
+            while let Some(under_way) = self.player.under_way {
                 let (sie_status, intr) = self.device_acts(10_000)?;
-                let buffer_control = self.bus.buffer_control;
+                let buffer_control = self.player.bus.buffer_control;
                 self.step(under_way.way, sie_status, intr, buffer_control)?;
             }
             self.line("record")?;

@@ -1,12 +1,13 @@
 //! Hostile scripts: sound begins, but samples, packet memory and lent bytes at random.
 
-use super::{Generator, UnderWay};
+use super::Generator;
+use crate::player::UnderWay;
 use crate::script::Way;
 use std::io::{self, Write};
 
 impl<W: Write> Generator<W> {
     pub fn hostile(&mut self) -> io::Result<()> {
-        match (self.under_way, self.rng.below(100)) {
+        match (self.player.under_way, self.rng.below(100)) {
             (_, 0..12) => self.side_call(),
             (_, 12..20) => self.any_packet_memory(),
             (_, 20) => self.sound_begin(),

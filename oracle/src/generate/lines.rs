@@ -1,12 +1,11 @@
 //! Lines that all kinds of script have in common.
 
-use super::{Generator, UnderWay};
+use super::Generator;
+use crate::player::{UnderWay, ERRORS, TRANS_COMPLETE};
 use crate::print::hex;
-use crate::script::Way;
+use crate::rng::Rng;
+use crate::script::{Step, Way};
 use std::io::{self, Write};
-
-pub const TRANS_COMPLETE: u32 = 1 << 18;
-pub const ERRORS: [u32; 6] = [1 << 31, 1 << 29, 1 << 26, 1 << 27, 1 << 25, 1 << 24];
 
 impl<W: Write> Generator<W> {
     pub fn size(&mut self) -> u64 {
@@ -29,12 +28,7 @@ impl<W: Write> Generator<W> {
     }
 
     pub fn bytes(&mut self, length: u64) -> String {
-        if length <= 64 && self.rng.bit() {
-            let bytes: Vec<u8> = (0..length).map(|_| self.rng.bits() as u8).collect();
-            return hex(&bytes);
-        }
-        let (start, step) = (self.rng.below(256), self.rng.below(256));
-        format!("seq:{length}:{start}:{step}")
+        bytes(&mut self.rng, length)
     }
 
     /// A SETUP with this wLength.
@@ -82,17 +76,11 @@ impl<W: Write> Generator<W> {
     pub fn step(
         &mut self,
         way: Way,
-        sie_status: u32,
+        status: u32,
         intr: u32,
-        buffer_control: u32,
+        buffers: u32,
     ) -> io::Result<()> {
-        let way = match way {
-            Way::In => "in",
-            Way::Out => "out",
-        };
-        self.line(&format!(
-            "step-{way} {sie_status:#x} {intr:#x} {buffer_control:#x}"
-        ))
+        self.line(&Step::new(way, status, intr, buffers).to_string())
     }
 
     /// A step with everything at random, around what could matter.
@@ -161,7 +149,9 @@ impl<W: Write> Generator<W> {
 
     /// An open pipe, if there is one.
     pub fn open_pipe(&mut self) -> Option<u64> {
-        let open: Vec<u64> = (1..=15).filter(|n| self.open[*n as usize - 1]).collect();
+        let open: Vec<u64> = (1..=15)
+            .filter(|n| self.player.open[*n as usize - 1])
+            .collect();
         (!open.is_empty()).then(|| self.rng.pick(&open))
     }
 
@@ -219,4 +209,13 @@ impl<W: Write> Generator<W> {
             _ => self.irq(),
         }
     }
+}
+
+pub fn bytes(rng: &mut Rng, length: u64) -> String {
+    if length <= 64 && rng.bit() {
+        let bytes: Vec<u8> = (0..length).map(|_| rng.bits() as u8).collect();
+        return hex(&bytes);
+    }
+    let (start, step) = (rng.below(256), rng.below(256));
+    format!("seq:{length}:{start}:{step}")
 }

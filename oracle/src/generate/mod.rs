@@ -1,17 +1,13 @@
-//! `oracle gen`: seeded random scripts. The script is played while it is made, so that
-//! the next line can go by what the driver answered.
+//! `oracle gen`: seeded random scripts.
 
-mod bus;
 mod edge;
 mod hostile;
 mod lines;
+mod mangled;
 mod well;
 
-use crate::driver::Answer;
+use crate::player::Player;
 use crate::rng::Rng;
-use crate::script::{self, Begin, Line, Way};
-use crate::session::{Block, Report, Session};
-use bus::Bus;
 use std::io::{self, Write};
 
 #[derive(Clone, Copy, PartialEq, Eq)]
@@ -22,33 +18,37 @@ pub enum Kind {
     Hostile,
     /// Refused calls and limits.
     Edge,
+    /// Lines with bytes changed, so that some can't be read.
+    Mangled,
 }
 
 impl Kind {
-    pub fn named(name: &str) -> Option<Self> {
-        match name {
-            "well" => Some(Self::Well),
-            "hostile" => Some(Self::Hostile),
-            "edge" => Some(Self::Edge),
-            _ => None,
+    pub const ALL: [Self; 4] = [Self::Well, Self::Hostile, Self::Edge, Self::Mangled];
+
+    pub fn name(self) -> &'static str {
+        match self {
+            Self::Well => "well",
+            Self::Hostile => "hostile",
+            Self::Edge => "edge",
+            Self::Mangled => "mangled",
         }
+    }
+
+    pub fn named(name: &str) -> Option<Self> {
+        Self::ALL.into_iter().find(|kind| kind.name() == name)
     }
 }
 
-/// A script with at least `calls` driver calls: begins, steps, cancels, opens, closes,
-/// polls, interrupts and detections, refused ones too. Other lines come in between.
-pub fn generate(seed: u64, calls: u64, kind: Kind, out: impl Write) -> io::Result<()> {
+/// A script with at least `calls` driver calls, refused ones too. Other lines come in
+/// between. The number of calls is answered.
+pub fn generate(seed: u64, calls: u64, kind: Kind, out: impl Write) -> io::Result<u64> {
     let mut generator = Generator {
         rng: Rng::new(seed),
-        out,
-        session: Session::new(),
-        bus: Bus::default(),
-        under_way: None,
-        open: [false; 15],
-        calls: 0,
+        kind,
+        player: Player::new(out),
     };
     generator.line("fresh")?;
-    while generator.calls < calls {
+    while generator.player.calls < calls {
         if generator.rng.once_in(400) {
             generator.line("record")?;
             generator.line("fresh")?;
@@ -57,95 +57,38 @@ pub fn generate(seed: u64, calls: u64, kind: Kind, out: impl Write) -> io::Resul
             Kind::Well => generator.well()?,
             Kind::Hostile => generator.hostile()?,
             Kind::Edge => generator.edge()?,
+            Kind::Mangled => generator.mangled()?,
         }
     }
     generator.line("record")?;
-    generator.out.flush()
+    generator.player.flush()?;
+    Ok(generator.player.calls)
 }
 
 struct Generator<W> {
     rng: Rng,
-    out: W,
-    session: Session,
-    bus: Bus,
-    under_way: Option<UnderWay>,
-    /// Pipe n at n - 1.
-    open: [bool; 15],
-    calls: u64,
-}
-
-/// What the script knows of the transfer under way.
-#[derive(Clone, Copy)]
-struct UnderWay {
-    way: Way,
-    size: u64,
-    length: usize,
-}
-
-impl UnderWay {
-    fn of(begin: &Begin) -> Self {
-        Self {
-            way: begin.data().way(),
-            size: begin.size().into(),
-            length: begin.data().length(),
-        }
-    }
+    kind: Kind,
+    player: Player<W>,
 }
 
 impl<W: Write> Generator<W> {
-    /// Writes a line and plays it.
     fn line(&mut self, text: &str) -> io::Result<()> {
-        writeln!(self.out, "{text}")?;
-        let line = match script::parse(text.as_bytes()) {
-            Ok(Some(line)) => line,
-            wrong => unreachable!("{text}: {wrong:?}"),
-        };
-        self.calls += u64::from(is_call(&line));
-        if line == Line::Fresh {
-            self.under_way = None;
-            self.open = [false; 15];
+        if self.kind == Kind::Mangled && self.rng.once_in(6) {
+            let text = self.mangle(text);
+            return self.player.line(&text);
         }
-        let block = self.session.play(line.clone());
-        if let Block::Call(report) = block {
-            self.note(&line, &report);
-        }
-        Ok(())
+        self.player.line(text.as_bytes())
     }
-
-    fn note(&mut self, line: &Line, report: &Report) {
-        self.bus.see(&report.log);
-        match (line, &report.answer) {
-            (Line::Begin(begin), Answer::Begun) => {
-                self.under_way = Some(UnderWay::of(begin));
-            }
-            (_, Answer::Done { .. } | Answer::Cancelled) => self.under_way = None,
-            (Line::Step(_), Answer::Refused(1..=7 | 9)) => self.under_way = None,
-            (_, Answer::Pipe(n)) => self.open[usize::from(*n) - 1] = true,
-            (Line::Close(n), Answer::Closed) => self.open[usize::from(*n) - 1] = false,
-            _ => {}
-        }
-    }
-}
-
-fn is_call(line: &Line) -> bool {
-    !matches!(
-        line,
-        Line::Fresh
-            | Line::Lend { .. }
-            | Line::PacketMemory { .. }
-            | Line::Buffer(_)
-            | Line::Record
-    )
 }
 
 #[cfg(test)]
 mod tests {
     use super::*;
 
-    fn script(seed: u64, kind: Kind) -> String {
+    fn script(seed: u64, kind: Kind) -> Vec<u8> {
         let mut out = Vec::new();
-        generate(seed, 3000, kind, &mut out).unwrap();
-        String::from_utf8(out).unwrap()
+        assert!(generate(seed, 3000, kind, &mut out).unwrap() >= 3000);
+        out
     }
 
     #[test]
@@ -158,9 +101,9 @@ mod tests {
     #[test]
     fn all_answers_come_up() {
         let mut answers = std::collections::BTreeSet::new();
-        for kind in [Kind::Well, Kind::Hostile, Kind::Edge] {
+        for kind in Kind::ALL {
             let mut out = Vec::new();
-            crate::replay(script(7, kind).as_bytes(), &mut out).unwrap();
+            crate::replay(&script(7, kind)[..], &mut out).unwrap();
             for line in String::from_utf8(out).unwrap().lines() {
                 let mut words = line.split(' ');
                 if words.next() == Some("answer") {

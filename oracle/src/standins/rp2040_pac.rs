@@ -98,7 +98,7 @@ impl<S: RegisterSpec> Reg<S> {
             value: from_zeros & mask,
         };
         let before = memory::register(self.address);
-        assert_eq!(
+        debug_assert_eq!(
             outcome(before),
             before & !mask | write.value,
             "a modify that is no masked store"

@@ -1,0 +1,141 @@
+//! `oracle compare`: random scripts, played here and by another program.
+
+use crate::generate::{generate, Kind};
+use crate::replay;
+use std::io::{self, Write};
+use std::process::{Command, Output, Stdio};
+use std::thread;
+
+/// At most this many driver calls are asked of one script.
+const RUN: u64 = 50_000;
+
+/// Plays scripts of every kind, from `seed` on, until there were `calls` calls. Stops at
+/// the first difference and answers whether there was none.
+pub fn compare(
+    program: &str,
+    seed: u64,
+    calls: u64,
+    out: &mut impl Write,
+) -> io::Result<bool> {
+    let run = RUN.min(calls.div_ceil(Kind::ALL.len() as u64));
+    let mut total = 0;
+    for seed in seed.. {
+        for kind in Kind::ALL {
+            if total >= calls {
+                writeln!(out, "{total} calls, 0 differences")?;
+                return Ok(true);
+            }
+            let mut script = Vec::new();
+            let played = generate(seed, run, kind, &mut script)?;
+            let what = format!("{} {seed}: {played} calls", kind.name());
+            if let Some(difference) = difference(program, &script)? {
+                writeln!(out, "{what}, different\n{difference}")?;
+                return Ok(false);
+            }
+            writeln!(out, "{what}, 0 differences")?;
+            out.flush()?;
+            total += played;
+        }
+    }
+    unreachable!("seeds don't end")
+}
+
+/// The first difference between the Rust and the program on a script, told in words.
+fn difference(program: &str, script: &[u8]) -> io::Result<Option<String>> {
+    let mut expected = Vec::new();
+    replay(script, &mut expected)?;
+    let found = played_by(program, script)?;
+    Ok(if expected != found.stdout {
+        Some(first_difference(script, &expected, &found.stdout))
+    } else if !found.status.success() {
+        Some(format!("the program ended with {}", found.status))
+    } else {
+        None
+    })
+}
+
+fn played_by(program: &str, script: &[u8]) -> io::Result<Output> {
+    let mut child = Command::new(program)
+        .stdin(Stdio::piped())
+        .stdout(Stdio::piped())
+        .spawn()
+        .map_err(|error| io::Error::new(error.kind(), format!("{program}: {error}")))?;
+    let mut input = child.stdin.take().expect("it is piped");
+    thread::scope(|scope| {
+        // A program that ends early shows by its output.
+        scope.spawn(move || input.write_all(script));
+        child.wait_with_output()
+    })
+}
+
+fn first_difference(script: &[u8], expected: &[u8], found: &[u8]) -> String {
+    let (expected, found) = (blocks(expected), blocks(found));
+    let at = (0..)
+        .find(|at| expected.get(*at) != found.get(*at))
+        .expect("they differ");
+    let line = script
+        .split(|byte| *byte == b'\n')
+        .enumerate()
+        .filter(|(_, line)| !line.is_empty() && line[0] != b'#')
+        .nth(at);
+    let line = match line {
+        Some((n, line)) => format!("{}: {}", n + 1, String::from_utf8_lossy(line)),
+        None => "past the script's end".to_string(),
+    };
+    let shown = |block: Option<&&[u8]>| match block {
+        Some(block) => String::from_utf8_lossy(block).into_owned(),
+        None => "nothing\n".to_string(),
+    };
+    format!(
+        "script line {line}\nthe Rust:\n{}the program:\n{}",
+        shown(expected.get(at)),
+        shown(found.get(at))
+    )
+}
+
+/// The blocks of an output, each with the line `.` that ends it.
+fn blocks(output: &[u8]) -> Vec<&[u8]> {
+    let mut blocks = Vec::new();
+    let (mut start, mut at) = (0, 0);
+    for line in output.split_inclusive(|byte| *byte == b'\n') {
+        at += line.len();
+        if line == b".\n" {
+            blocks.push(&output[start..at]);
+            start = at;
+        }
+    }
+    if start < at {
+        blocks.push(&output[start..]);
+    }
+    blocks
+}
+
+#[cfg(test)]
+mod tests {
+    use super::*;
+
+    #[test]
+    fn the_first_different_call_is_named() {
+        let script = b"# a comment\n\nclose 1\nclose 2\n";
+        let expected = b"answer refused 17\n.\nanswer refused 17\n.\n";
+        let found = b"answer refused 17\n.\nanswer closed\n.\n";
+        assert_eq!(
+            first_difference(script, expected, found),
+            "script line 4: close 2\nthe Rust:\nanswer refused 17\n.\n\
+             the program:\nanswer closed\n.\n"
+        );
+        assert_eq!(
+            first_difference(script, expected, &expected[..20]),
+            "script line 4: close 2\nthe Rust:\nanswer refused 17\n.\n\
+             the program:\nnothing\n"
+        );
+    }
+
+    #[test]
+    fn a_program_that_answers_otherwise_is_found() {
+        assert!(difference("cat", b"close 1\n").unwrap().is_some());
+        assert!(difference("cat", b"# nothing to play").unwrap().is_some());
+        assert!(difference("false", b"").unwrap().is_some());
+        assert!(difference("cat", b"").unwrap().is_none());
+    }
+}

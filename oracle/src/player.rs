@@ -1,0 +1,135 @@
+//! Writes a script and plays it at the same time, so that the next line can go by what
+//! the driver answered.
+
+use crate::bus::Bus;
+use crate::driver::Answer;
+use crate::record::{SEND_SETUP, SIE_CTRL};
+use crate::script::{self, Begin, Line, Way};
+use crate::session::{Block, Report, Session};
+use std::io::{self, Write};
+
+pub const TRANS_COMPLETE: u32 = 1 << 18;
+/// In the order in which they are looked for.
+pub const ERRORS: [u32; 6] = [1 << 31, 1 << 29, 1 << 26, 1 << 27, 1 << 25, 1 << 24];
+pub const INTR_TRANS_COMPLETE: u32 = 0x8;
+pub const INTR_BUFF_STATUS: u32 = 0x10;
+
+pub struct Player<W> {
+    out: W,
+    session: Session,
+    pub bus: Bus,
+    pub under_way: Option<UnderWay>,
+    /// Pipe n at n - 1.
+    pub open: [bool; 15],
+    /// Begins, steps, cancels, opens, closes, polls, interrupts and detections so far,
+    /// refused ones too.
+    pub calls: u64,
+}
+
+/// What the script knows of the transfer under way.
+#[derive(Clone, Copy)]
+pub struct UnderWay {
+    pub way: Way,
+    pub size: u64,
+    pub length: usize,
+}
+
+impl UnderWay {
+    fn of(begin: &Begin) -> Self {
+        Self {
+            way: begin.data().way(),
+            size: begin.size().into(),
+            length: begin.data().length(),
+        }
+    }
+}
+
+impl<W: Write> Player<W> {
+    pub fn new(out: W) -> Self {
+        Self {
+            out,
+            session: Session::new(),
+            bus: Bus::default(),
+            under_way: None,
+            open: [false; 15],
+            calls: 0,
+        }
+    }
+
+    /// Writes a line, without its LF, and plays it unless it is skipped or unreadable.
+    pub fn line(&mut self, text: &[u8]) -> io::Result<()> {
+        self.out.write_all(text)?;
+        self.out.write_all(b"\n")?;
+        let Ok(Some(line)) = script::parse(text) else {
+            return Ok(());
+        };
+        self.calls += u64::from(is_call(&line));
+        if line == Line::Fresh {
+            self.under_way = None;
+            self.open = [false; 15];
+        }
+        if let Block::Call(report) = self.session.play(line.clone()) {
+            self.note(&line, &report);
+        }
+        Ok(())
+    }
+
+    /// Lets a sound device take or send up to so many packets, or take the SETUP, and
+    /// gives SIE_STATUS and INTR after it. For an IN slot of some length, `send` gives
+    /// the length and the BYTES that the device sends.
+    pub fn device_acts(
+        &mut self,
+        packets: usize,
+        mut send: impl FnMut(u32) -> (u32, String),
+    ) -> io::Result<(u32, u32)> {
+        if self.session.register(SIE_CTRL) & SEND_SETUP != 0 {
+            return Ok((TRANS_COMPLETE, INTR_TRANS_COMPLETE));
+        }
+        for _ in 0..packets {
+            let Some(armed) = self.bus.armed() else { break };
+            let mut is_final = armed.is_last;
+            if armed.is_in {
+                let (length, bytes) = send(armed.length);
+                let start = 0x180 + 0x40 * self.bus.slot;
+                self.line(format!("pm {start:#x} {bytes}").as_bytes())?;
+                self.bus.fill(length);
+                is_final |= length < armed.length;
+            } else {
+                self.bus.take();
+            }
+            if is_final {
+                return Ok((TRANS_COMPLETE, INTR_TRANS_COMPLETE | INTR_BUFF_STATUS));
+            }
+        }
+        Ok((0, INTR_BUFF_STATUS))
+    }
+
+    pub fn flush(&mut self) -> io::Result<()> {
+        self.out.flush()
+    }
+
+    fn note(&mut self, line: &Line, report: &Report) {
+        self.bus.see(&report.log);
+        match (line, &report.answer) {
+            (Line::Begin(begin), Answer::Begun) => {
+                self.under_way = Some(UnderWay::of(begin));
+            }
+            (_, Answer::Done { .. } | Answer::Cancelled) => self.under_way = None,
+            (Line::Step(_), Answer::Refused(1..=7 | 9)) => self.under_way = None,
+            (_, Answer::Pipe(n)) => self.open[usize::from(*n) - 1] = true,
+            (Line::Close(n), Answer::Closed) => self.open[usize::from(*n) - 1] = false,
+            _ => {}
+        }
+    }
+}
+
+fn is_call(line: &Line) -> bool {
+    !matches!(
+        line,
+        Line::Fresh
+            | Line::Lend { .. }
+            | Line::PacketMemory { .. }
+            | Line::Buffer(_)
+            | Line::Record
+    )
+}

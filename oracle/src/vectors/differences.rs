@@ -1,0 +1,126 @@
+//! The smallest inputs of docs/DIFFERENCES.md, taken from its tables.
+
+use super::Vectors;
+use std::io::{self, Write};
+
+const TABLES: &str = include_str!("../../../docs/DIFFERENCES.md");
+
+struct Row {
+    number: &'static str,
+    /// What is in code type under "here".
+    #[cfg_attr(not(test), allow(dead_code))]
+    here: Vec<&'static str>,
+    /// In code type under "smallest input".
+    scripts: Vec<&'static str>,
+}
+
+fn rows() -> impl Iterator<Item = Row> {
+    let is_row = |line: &&str| line.starts_with("| ") && !line.starts_with("| #");
+    TABLES.lines().filter(is_row).map(|line| {
+        let cells: Vec<&str> = line.trim_matches('|').split('|').collect();
+        Row {
+            number: cells[0].trim(),
+            here: in_code_type(cells[3]),
+            scripts: in_code_type(cells[cells.len() - 1]),
+        }
+    })
+}
+
+fn in_code_type(cell: &str) -> Vec<&str> {
+    cell.split('`').skip(1).step_by(2).collect()
+}
+
+impl<W: Write> Vectors<W> {
+    pub fn differences(&mut self) -> io::Result<()> {
+        for row in rows() {
+            for script in row.scripts {
+                self.case(&format!("difference {}", row.number))?;
+                script.split(" / ").try_for_each(|line| self.line(line))?;
+            }
+        }
+        Ok(())
+    }
+}
+
+#[cfg(test)]
+mod tests {
+    use super::*;
+    use crate::async_pool::{self, Pool};
+    use crate::bitset::BitSet;
+    use crate::driver::{Answer, Driver};
+    use crate::rp2040;
+    use crate::rules::Lent;
+
+    /// Each script's last block has the answer, or a line, that its row names.
+    #[test]
+    fn every_script_answers_as_its_row_says() {
+        let mut without = Vec::new();
+        for row in rows() {
+            if row.scripts.is_empty() {
+                without.push(row.number);
+            }
+            for script in row.scripts {
+                let mut out = Vec::new();
+                crate::replay(script.replace(" / ", "\n").as_bytes(), &mut out).unwrap();
+                let out = String::from_utf8(out).unwrap();
+                let last = out
+                    .trim_end_matches("\n.\n")
+                    .rsplit("\n.\n")
+                    .next()
+                    .unwrap();
+                let found = last.lines().any(|line| {
+                    let line = line.strip_prefix("answer ").unwrap_or(line);
+                    row.here.contains(&line)
+                });
+                assert!(found, "{}: {script}\n{last}", row.number);
+            }
+        }
+        assert_eq!(without, ["1", "2", "3", "5", "15"]);
+    }
+
+    #[test]
+    #[should_panic(expected = "n < 32")]
+    fn difference_1_set() {
+        BitSet::new().set(32);
+    }
+
+    #[test]
+    #[should_panic(expected = "n < 32")]
+    fn difference_1_clear() {
+        BitSet::new().clear(32);
+    }
+
+    #[test]
+    #[should_panic(expected = "n < 32")]
+    fn difference_1_contains() {
+        BitSet::new().contains(32);
+    }
+
+    #[test]
+    #[should_panic(expected = "total <= 32")]
+    fn difference_2() {
+        Pool::new(33);
+    }
+
+    #[test]
+    #[should_panic(expected = "contains")]
+    fn difference_3() {
+        async_pool::view::free(&Pool::new(1), 0);
+    }
+
+    #[test]
+    #[should_panic(expected = "divisor of zero")]
+    fn difference_5() {
+        rp2040::view::variable_size_packets_of_0(&[0]);
+    }
+
+    #[test]
+    fn difference_15() {
+        let mut driver = Driver::fresh();
+        let found = |answer| matches!(answer, Ok(Answer::Device(_)));
+        assert!(found(driver.detect(Lent::whole(), 0x100)));
+        assert!(!found(driver.detect(Lent::whole(), 0x100)));
+        driver.detect_anew();
+        assert!(found(driver.detect(Lent::whole(), 0x100)));
+    }
+}

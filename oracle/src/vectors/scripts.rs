@@ -1,0 +1,27 @@
+//! The scripts of the oracle's own tests: document 01's table, lending, and
+//! lines that can't be read.
+
+use super::Vectors;
+use std::io::{self, Write};
+
+const SCRIPTS: [&str; 6] = [
+    include_str!("../../tests/scripts/golden.script"),
+    include_str!("../../tests/scripts/table.script"),
+    include_str!("../../tests/scripts/control.script"),
+    include_str!("../../tests/scripts/pipes.script"),
+    include_str!("../../tests/scripts/lending.script"),
+    UNREADABLE,
+];
+
+pub const UNREADABLE: &str = include_str!("../../tests/scripts/unreadable.script");
+
+impl<W: Write> Vectors<W> {
+    pub fn scripts(&mut self) -> io::Result<()> {
+        for script in SCRIPTS {
+            self.line("fresh")?;
+            let lines = script.trim_end_matches('\n').split('\n');
+            lines.into_iter().try_for_each(|line| self.line(line))?;
+        }
+        Ok(())
+    }
+}
