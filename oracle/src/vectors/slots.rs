@@ -80,13 +80,15 @@ impl<W: Write> Vectors<W> {
 
     /// A step that goes on, with one more to show what it left, and one that completes.
     fn flags(&mut self, way: Way, standing: &Standing) -> io::Result<()> {
+        // An OUT slot's length says nothing.
+        let lengths = if way == Way::In { LENGTHS } else { 0 };
         for flags in all_flags() {
             let what = format!("flags {flags:#010x}");
             self.stand(way, standing, &what)?;
-            self.step(way, 0, 0x10, flags | LENGTHS)?;
-            self.step(way, 0, 0x10, LENGTHS)?;
+            self.step(way, 0, 0x10, flags | lengths)?;
+            self.step(way, 0, 0x10, lengths)?;
             self.stand(way, standing, &format!("{what}, complete"))?;
-            self.step(way, 0x40000, 8, flags | LENGTHS)?;
+            self.step(way, 0x40000, 8, flags | lengths)?;
         }
         Ok(())
     }
