@@ -1,8 +1,8 @@
 -- Laws of digits and of the numbers that they spell. Assumes nothing.
-use mathlib.Core.Path.{_≡_, refl, sym, ap, _∙_}
+use mathlib.Core.Path.{_≡_, refl, ap, _∙_}
 use mathlib.Core.Bool.{Bool, true, false, cond, _&&_}
 use mathlib.Core.List.{List, [], _∷_}
-use Prim.Native.Nat.{ℕ, zero, suc, _+_, _*_, _-_, _≤_, _<_}
+use Prim.Native.Nat.{ℕ, suc, _+_, _*_, _-_, _≤_, _<_}
 use native.Mathlib.Nat.{mul-le-mul-left}
 use native.Mathlib.Numerals.{add-one}
 use native.Mathlib.Omega.{arith}
@@ -10,14 +10,9 @@ use borrow.Author.Tests.{lt-ltb, le-ltb, le-leb, lt-leb, leb-true}
 use lib.Dec.{leb, ltb, eqb}
 use lib.ListN.{length, drop, getD, drop-of-length-le}
 use lib.Seq.{drop-cons}
-use Rattle.pool.proofs.Cases.{byCases}
 use Rattle.script.specs.Numbers.{digitOf, allDigits, spelled, valueOf, numberOf, isHex}
-use Rattle.script.specs.declared.number.OptionNumber.{OptionNumber}
+use Rattle.script.proofs.Walks.{and-false}
 use Rattle.script.specs.declared.number.OptionNumber.the-variants.{Some, None}
-
-pub and-false : (t : Bool) → t && false ≡ false
-and-false true = refl
-and-false false = refl
 
 pub digit-number : (b : ℕ) → 48 ≤ b → b ≤ 57 → digitOf b ≡ b - 48
 unfolding digitOf
@@ -53,6 +48,19 @@ unfolding spelled
 spelled-least base n [] h = omega arith
 spelled-least base n (d ∷ ds) h = omega (arith, mul-le-mul-left n h, spelled-least base (n * base + digitOf d) ds h)
 
+-- The bytes so far are digits of the base: one more is, one isn't, all are.
+pub digits-more : (base : ℕ) (ds : List ℕ) (i : ℕ) → i < length ds → digitOf (getD ds i 0) < base → allDigits base ds ≡ allDigits base (drop i ds) → allDigits base ds ≡ allDigits base (drop (i + 1) ds)
+unfolding allDigits
+digits-more base ds i h k e = rw add-one (e ∙ rw (drop-cons ds i 0 h, lt-ltb (digitOf (getD ds i 0)) base k))
+
+pub digits-not : (base : ℕ) (ds : List ℕ) (i : ℕ) → i < length ds → base ≤ digitOf (getD ds i 0) → allDigits base ds ≡ allDigits base (drop i ds) → allDigits base ds ≡ false
+unfolding allDigits
+digits-not base ds i h k e = e ∙ rw (drop-cons ds i 0 h, le-ltb (digitOf (getD ds i 0)) base k)
+
+pub digits-end : (base : ℕ) (ds : List ℕ) (i : ℕ) → length ds ≤ i → allDigits base ds ≡ allDigits base (drop i ds) → allDigits base ds ≡ true
+unfolding allDigits
+digits-end base ds i h e = e ∙ rw (drop-of-length-le ds h)
+
 -- The first i digits spell n.
 pub record Spelt (base most : ℕ) (ds : List ℕ) (n i : ℕ) : Type 0 where
   pub inside : i ≤ length ds
@@ -63,32 +71,23 @@ pub record Spelt (base most : ℕ) (ds : List ℕ) (n i : ℕ) : Type 0 where
 pub spelt-none : (base most : ℕ) (ds : List ℕ) → Spelt base most ds 0 0
 spelt-none base most ds = record { inside = omega arith; small = omega arith; good = refl; same = refl }
 
-good-more : (base d : ℕ) (ds : List ℕ) → digitOf d < base → allDigits base (d ∷ ds) ≡ allDigits base ds
-unfolding allDigits
-good-more base d ds h = simp (lt-ltb (digitOf d) base h)
-
-good-not : (base d : ℕ) (ds : List ℕ) → base ≤ digitOf d → allDigits base (d ∷ ds) ≡ false
-unfolding allDigits
-good-not base d ds h = simp (le-ltb (digitOf d) base h)
-
 module _ (base most : ℕ) (ds : List ℕ) (n i : ℕ) (s : Spelt base most ds n i) (h : i < length ds) where
   same-next : spelled base 0 ds ≡ spelled base (n * base + digitOf (getD ds i 0)) (drop (suc i) ds)
   unfolding spelled
   same-next = s .same ∙ ap (spelled base n) (drop-cons ds i 0 h)
 
   pub spelt-more : digitOf (getD ds i 0) < base → n * base + digitOf (getD ds i 0) ≤ most → Spelt base most ds (n * base + digitOf (getD ds i 0)) (i + 1)
-  spelt-more k m = rw add-one (record {
+  spelt-more k m = record {
     inside = omega arith;
     small = m;
-    good = s .good ∙ ap (allDigits base) (drop-cons ds i 0 h) ∙ good-more base (getD ds i 0) (drop (suc i) ds) k;
-    same = same-next;
-  })
+    good = digits-more base ds i h k (s .good);
+    same = rw add-one same-next;
+  }
 
   pub value-bad : base ≤ digitOf (getD ds i 0) → valueOf base most ds ≡ None
   unfolding valueOf
   value-bad k =
-      let e : allDigits base ds ≡ false = s .good ∙ ap (allDigits base) (drop-cons ds i 0 h) ∙ good-not base (getD ds i 0) (drop (suc i) ds) k in
-      simp (e, and-false)
+      simp (digits-not base ds i h k (s .good), and-false)
 
   pub value-large : 1 ≤ base → most < n * base + digitOf (getD ds i 0) → valueOf base most ds ≡ None
   unfolding valueOf
@@ -97,12 +96,10 @@ module _ (base most : ℕ) (ds : List ℕ) (n i : ℕ) (s : Spelt base most ds n
       simp (e, and-false)
 
 pub value-whole : (base most : ℕ) (ds : List ℕ) (n i : ℕ) → Spelt base most ds n i → length ds ≤ i → (length ds ≡ 0 → ⊥) → valueOf base most ds ≡ Some n
-unfolding valueOf spelled allDigits
+unfolding valueOf spelled
 value-whole base most ds n i s h k =
-    let r : drop i ds ≡ [] = drop-of-length-le ds h in
-    let g : allDigits base ds ≡ true = s .good ∙ ap (allDigits base) r in
-    let e : spelled base 0 ds ≡ n = s .same ∙ ap (spelled base n) r in
-    rw (g, e, lt-ltb 0 (length ds) (omega arith), le-leb n most (s .small))
+    let e : spelled base 0 ds ≡ n = s .same ∙ ap (spelled base n) (drop-of-length-le ds h) in
+    rw (digits-end base ds i h (s .good), e, lt-ltb 0 (length ds) (omega arith), le-leb n most (s .small))
 
 pub value-none : (base most : ℕ) (ds : List ℕ) → length ds ≡ 0 → valueOf base most ds ≡ None
 unfolding valueOf

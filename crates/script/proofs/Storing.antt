@@ -1,41 +1,27 @@
 -- Laws of bytes read from digits or made by a rule, and of storing them from the start on. Assumes nothing.
 use mathlib.Core.Path.{_≡_, refl, sym, ap, ap₂, _∙_}
-use mathlib.Core.Bool.{Bool, true, false, cond, _&&_}
+use mathlib.Core.Bool.{Bool, true, false, _&&_}
 use mathlib.Core.List.{List, [], _∷_}
 use Prim.Native.Nat.{ℕ, zero, suc, _+_, _*_, _/_, _%_, _≤_, _<_}
 use native.Mathlib.Nat.{zero-add}
-use native.Mathlib.Numerals.{add-one}
 use native.Mathlib.Omega.{arith}
 use borrow.Author.Tests.{lt-ltb, le-ltb, le-leb, lt-leb, eq-eqb, ne-eqb, ltb-true}
 use lib.Dec.{ltb}
-use lib.ListN.{length, take, drop, set, getD, drop-of-length-le}
-use lib.Seq.{sets, drop-cons}
+use lib.ListN.{length, take, set, getD}
+use lib.Seq.{sets}
 use Rattle.pool.proofs.Stores.{copy-more}
 use Rattle.script.specs.Parts.{partOf, sameText}
 use Rattle.script.specs.Numbers.{digitOf, allDigits, numberOf}
-use Rattle.script.specs.Bytes.{longest, Bytes, Given, Wrong, pairsOf, hexBytes, seqAt, seqFrom, seqThen, seqBytes}
+use Rattle.script.specs.Bytes.{longest, Given, Wrong, pairsOf, hexBytes, seqAt, seqFrom, seqThen, seqBytes}
 use Rattle.script.specs.declared.number.OptionNumber.{OptionNumber}
 use Rattle.script.specs.declared.number.OptionNumber.the-variants.{Some as Number, None as NoNumber}
-use Rattle.script.proofs.Spelling.{and-false}
+use Rattle.script.proofs.Walks.{and-false}
 
 -- A turn of a loop that stores from the start on.
 pub store-more : (d s : List ℕ) (i : ℕ) → i < length s → set (sets d 0 (take i s)) i (getD s i 0) ≡ sets d 0 (take (i + 1) s)
 store-more d s i h = ap (λ (k : ℕ). set (sets d 0 (take i s)) k (getD s i 0)) (sym (zero-add i)) ∙ copy-more d s 0 i h
 
--- The first i bytes are hexadecimal digits.
-pub hex-more : (ds : List ℕ) (i : ℕ) → i < length ds → digitOf (getD ds i 0) < 16 → allDigits 16 ds ≡ allDigits 16 (drop i ds) → allDigits 16 ds ≡ allDigits 16 (drop (i + 1) ds)
-unfolding allDigits
-hex-more ds i h k e = rw add-one (e ∙ rw (drop-cons ds i 0 h, lt-ltb (digitOf (getD ds i 0)) 16 k))
-
-pub hex-not : (ds : List ℕ) (i : ℕ) → i < length ds → 16 ≤ digitOf (getD ds i 0) → allDigits 16 ds ≡ allDigits 16 (drop i ds) → allDigits 16 ds ≡ false
-unfolding allDigits
-hex-not ds i h k e = e ∙ rw (drop-cons ds i 0 h, le-ltb (digitOf (getD ds i 0)) 16 k)
-
-pub hex-end : (ds : List ℕ) (i : ℕ) → length ds ≤ i → allDigits 16 ds ≡ allDigits 16 (drop i ds) → allDigits 16 ds ≡ true
-unfolding allDigits
-hex-end ds i h e = e ∙ rw (drop-of-length-le ds h)
-
--- Each of them is one.
+-- Each of hexadecimal digits is one.
 pub hex-at : (ds : List ℕ) (i : ℕ) → allDigits 16 ds ≡ true → i < length ds → digitOf (getD ds i 0) < 16
 unfolding allDigits
 hex-at [] i e h = absurd (omega arith)

@@ -81,6 +81,10 @@ parts-least sep (b ∷ bs) = go (eqb b sep) (parts-least sep bs)
     go true p = (omega (arith, p), omega (arith, p))
     go false p = (omega (arith, p), omega (arith, p))
 
+pub and-false : (t : Bool) → t && false ≡ false
+and-false true = refl
+and-false false = refl
+
 -- Texts of one length: the first i bytes agree.
 pub same-more : (a b : List ℕ) (i : ℕ) → i < length a → i < length b → getD a i 0 ≡ getD b i 0
     → sameText a b ≡ sameText (drop i a) (drop i b) → sameText a b ≡ sameText (drop (i + 1) a) (drop (i + 1) b)
@@ -102,11 +106,7 @@ unfolding sameText
 same-length-not [] [] n = absurd (n refl)
 same-length-not [] (y ∷ b) n = refl
 same-length-not (x ∷ a) [] n = refl
-same-length-not (x ∷ a) (y ∷ b) n = rw (same-length-not a b (λ e. n (ap suc e))) (go (eqb x y))
-  where
-    go : (t : Bool) → t && false ≡ false
-    go true = refl
-    go false = refl
+same-length-not (x ∷ a) (y ∷ b) n = rw (same-length-not a b (λ e. n (ap suc e))) (and-false (eqb x y))
 
 -- The first part, and a later one.
 pub part-first : (sep : ℕ) (text : List ℕ) (k : ℕ) → k ≡ 0 → partOf sep text k ≡ upTo sep text

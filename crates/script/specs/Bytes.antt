@@ -1,5 +1,5 @@
 -- "BYTES is hexadecimal pairs of either case, `-` for none, or `seq:LEN:START:STEP`."
-use mathlib.Core.Bool.{Bool, true, false, cond, _&&_}
+use mathlib.Core.Bool.{Bool, cond, _&&_}
 use mathlib.Core.List.{List, [], _∷_}
 use Prim.Native.Nat.{ℕ, zero, suc, _+_, _*_, _/_, _%_}
 use lib.Dec.{eqb, leb, ltb}
@@ -41,6 +41,7 @@ unfoldable pub seqFrom : ℕ → ℕ → ℕ → ℕ → List ℕ
 seqFrom start step i zero = []
 seqFrom start step i (suc n) = seqAt start step i ∷ seqFrom start step (suc i) n
 
+-- "LEN bytes", where LEN, START and STEP can all be read.
 unfoldable pub seqThen : OptionNumber → OptionNumber → OptionNumber → Bytes
 seqThen (Number n) (Number start) (Number step) = Given (seqFrom start step 0 n)
 seqThen (Number n) (Number start) NoNumber = Wrong
@@ -51,7 +52,7 @@ seqThen NoNumber b c = Wrong
 unfoldable pub seqBytes : List ℕ → Bytes
 seqBytes text = seqThen (numberOf (partOf 58 text 1) longest) (numberOf (partOf 58 text 2) 255) (numberOf (partOf 58 text 3) 255)
 
--- A text is four parts at colons, of which the first is `seq`.
+-- A text has the form `seq:LEN:START:STEP`: four parts at colons, of which the first is `seq`.
 abbrev pub isSeq : List ℕ → Bool
 isSeq text = eqb (partsOf 58 text) 4 && sameText (partOf 58 text 0) (115 ∷ 101 ∷ 113 ∷ [])
 
@@ -59,11 +60,12 @@ isSeq text = eqb (partsOf 58 text) 4 && sameText (partOf 58 text 0) (115 ∷ 101
 unfoldable pub bytesOf : List ℕ → Bytes
 bytesOf text = cond (sameText text (45 ∷ [])) (Given []) (cond (isSeq text) (seqBytes text) (hexBytes text))
 
--- How many they are, and the lent bytes with them at their start.
+-- How many bytes BYTES has, where it can be read.
 unfoldable pub countIn : Bytes → OptionCount
 countIn (Given bs) = Some (length bs)
 countIn Wrong = None
 
+-- The lent bytes with them at their start.
 unfoldable pub storedIn : List ℕ → Bytes → List ℕ
 storedIn out (Given bs) = sets out 0 bs
 storedIn out Wrong = out

@@ -1,5 +1,5 @@
 -- What a line asks for: the table of the script's format, line by line.
-use mathlib.Core.Bool.{Bool, true, false, cond, _&&_, _||_}
+use mathlib.Core.Bool.{Bool, cond}
 use mathlib.Core.List.{List, [], _∷_}
 use Prim.Native.Nat.{ℕ, _+_}
 use lib.Dec.{eqb, leb}
@@ -31,39 +31,47 @@ use Rattle.script.specs.declared.begins.OptionControl.the-variants.{Some
 use Rattle.script.specs.declared.begins.OptionBulk.{OptionBulk}
 use Rattle.script.specs.declared.begins.OptionBulk.the-variants.{Some as SomeBulk, None as NoBulk}
 
--- What a field holds goes on; where it can't be read, the other answer stands.
+-- A line goes on with what a field holds; where the field can't be read, the other answer stands.
 abbrev pub withByte : {A : Type 0} → OptionByte → A → (ℕ → A) → A
 withByte (Byte x) a f = f x
 withByte NoByte a f = a
 
+-- The same for two bytes.
 abbrev pub withHalf : {A : Type 0} → OptionHalf → A → (ℕ → A) → A
 withHalf (Half x) a f = f x
 withHalf NoHalf a f = a
 
+-- The same for a register's word.
 abbrev pub withWord : {A : Type 0} → OptionWord → A → (ℕ → A) → A
 withWord (Word x) a f = f x
 withWord NoWord a f = a
 
+-- The same for 0 or 1.
 abbrev pub withBit : {A : Type 0} → OptionBit → A → (Bool → A) → A
 withBit (Bit x) a f = f x
 withBit NoBit a f = a
 
+-- The same for a length, or the count of BYTES.
 abbrev pub withCount : {A : Type 0} → OptionCount → A → (ℕ → A) → A
 withCount (Count x) a f = f x
 withCount NoCount a f = a
 
+-- The same for SETUP.
 abbrev pub withSetup : {A : Type 0} → OptionSetup → A → (Setup → A) → A
 withSetup (SomeSetup x) a f = f x
 withSetup NoSetup a f = a
 
+-- The same for a step's sample.
 abbrev pub withStep : {A : Type 0} → OptionStep → A → (Stepping → A) → A
 withStep (SomeStep x) a f = f x
 withStep NoStep a f = a
 
+-- The same for what every control has.
 abbrev pub withControl : {A : Type 0} → OptionControl → A → (Control → A) → A
 withControl (SomeControl x) a f = f x
 withControl NoControl a f = a
 
+-- The same for what every bulk has.
 abbrev pub withBulk : {A : Type 0} → OptionBulk → A → (Bulk → A) → A
 withBulk (SomeBulk x) a f = f x
 withBulk NoBulk a f = a
@@ -73,6 +81,7 @@ pub record Reading : Type 0 where
   pub command : Command
   pub stored : List ℕ
 
+-- A line's command beside the lent bytes.
 abbrev pub reading : Command → List ℕ → Reading
 reading c out = record { command = c; stored = out }
 
@@ -142,16 +151,19 @@ detectOf line =
     Detect status)
     Wrong
 
+-- `step-in SIE_STATUS INTR EP_BUFFER_CONTROL`.
 abbrev pub stepInOf : List ℕ → Command
 stepInOf line = withStep (stepOf line) Wrong λ s. StepIn s
 
+-- `step-out SIE_STATUS INTR EP_BUFFER_CONTROL`.
 abbrev pub stepOutOf : List ℕ → Command
 stepOutOf line = withStep (stepOf line) Wrong λ s. StepOut s
 
--- `pm OFFSET BYTES`: "`pm` past 4,096" can't be read.
+-- "`pm` past 4,096" can't be read.
 abbrev pub storedCommand : ℕ → ℕ → Command
 storedCommand offset count = cond (leb (offset + count) 4096) (Memory (record { offset = offset; count = count })) Wrong
 
+-- `pm OFFSET BYTES`.
 unfoldable pub memoryOf : List ℕ → List ℕ → Reading
 memoryOf line out =
     cond (eqb (fieldsOf line) 3)
@@ -189,88 +201,111 @@ bulkOf line =
     SomeBulk (record { address = address; endpoint = endpoint; size = size; variable = variable; toggle = toggle; count = 0 }))))))
     NoBulk
 
--- A begin with its LEN, or the count of its BYTES.
+-- A control with its LEN, or the count of its BYTES.
 abbrev pub controlCount : Control → ℕ → Control
 controlCount c n = record { address = c .address; preamble = c .preamble; size = c .size; setup = c .setup; count = n }
 
+-- A bulk with its LEN, or the count of its BYTES.
 abbrev pub bulkCount : Bulk → ℕ → Bulk
 bulkCount b n = record { address = b .address; endpoint = b .endpoint; size = b .size; variable = b .variable; toggle = b .toggle; count = n }
 
+-- `control-in ADDRESS PREAMBLE SIZE SETUP LEN`.
 unfoldable pub controlInOf : List ℕ → Command
 controlInOf line = withControl (controlOf line 6) Wrong λ c. withCount (lengthAt line 5 131072) Wrong λ n. ControlIn (controlCount c n)
 
+-- `control-out ADDRESS PREAMBLE SIZE SETUP BYTES`.
 unfoldable pub controlOutOf : List ℕ → List ℕ → Reading
 controlOutOf line out = withControl (controlOf line 6) (reading Wrong out) λ c. reading (withCount (countAt line 5) Wrong λ n. ControlOut (controlCount c n)) (storedAt out line 5)
 
+-- `control-none ADDRESS PREAMBLE SIZE SETUP`.
 unfoldable pub controlNoneOf : List ℕ → Command
 controlNoneOf line = withControl (controlOf line 5) Wrong λ c. ControlNone c
 
+-- `bulk-in ADDRESS ENDPOINT SIZE TYPE TOGGLE LEN`.
 unfoldable pub bulkInOf : List ℕ → Command
 bulkInOf line = withBulk (bulkOf line) Wrong λ b. withCount (lengthAt line 6 131072) Wrong λ n. BulkIn (bulkCount b n)
 
+-- `bulk-out ADDRESS ENDPOINT SIZE TYPE TOGGLE BYTES`.
 unfoldable pub bulkOutOf : List ℕ → List ℕ → Reading
 bulkOutOf line out = withBulk (bulkOf line) (reading Wrong out) λ b. reading (withCount (countAt line 6) Wrong λ n. BulkOut (bulkCount b n)) (storedAt out line 6)
 
--- The calls' words, in ASCII.
+-- `fresh`, in ASCII; so are the words below.
 abbrev pub word-fresh : List ℕ
 word-fresh = 102 ∷ 114 ∷ 101 ∷ 115 ∷ 104 ∷ []
 
+-- `cancel`.
 abbrev pub word-cancel : List ℕ
 word-cancel = 99 ∷ 97 ∷ 110 ∷ 99 ∷ 101 ∷ 108 ∷ []
 
+-- `record`.
 abbrev pub word-record : List ℕ
 word-record = 114 ∷ 101 ∷ 99 ∷ 111 ∷ 114 ∷ 100 ∷ []
 
+-- `lend`.
 abbrev pub word-lend : List ℕ
 word-lend = 108 ∷ 101 ∷ 110 ∷ 100 ∷ []
 
+-- `pm`.
 abbrev pub word-pm : List ℕ
 word-pm = 112 ∷ 109 ∷ []
 
+-- `buffer`.
 abbrev pub word-buffer : List ℕ
 word-buffer = 98 ∷ 117 ∷ 102 ∷ 102 ∷ 101 ∷ 114 ∷ []
 
+-- `control-in`.
 abbrev pub word-control-in : List ℕ
 word-control-in = 99 ∷ 111 ∷ 110 ∷ 116 ∷ 114 ∷ 111 ∷ 108 ∷ 45 ∷ 105 ∷ 110 ∷ []
 
+-- `control-out`.
 abbrev pub word-control-out : List ℕ
 word-control-out = 99 ∷ 111 ∷ 110 ∷ 116 ∷ 114 ∷ 111 ∷ 108 ∷ 45 ∷ 111 ∷ 117 ∷ 116 ∷ []
 
+-- `control-none`.
 abbrev pub word-control-none : List ℕ
 word-control-none = 99 ∷ 111 ∷ 110 ∷ 116 ∷ 114 ∷ 111 ∷ 108 ∷ 45 ∷ 110 ∷ 111 ∷ 110 ∷ 101 ∷ []
 
+-- `bulk-in`.
 abbrev pub word-bulk-in : List ℕ
 word-bulk-in = 98 ∷ 117 ∷ 108 ∷ 107 ∷ 45 ∷ 105 ∷ 110 ∷ []
 
+-- `bulk-out`.
 abbrev pub word-bulk-out : List ℕ
 word-bulk-out = 98 ∷ 117 ∷ 108 ∷ 107 ∷ 45 ∷ 111 ∷ 117 ∷ 116 ∷ []
 
+-- `step-in`.
 abbrev pub word-step-in : List ℕ
 word-step-in = 115 ∷ 116 ∷ 101 ∷ 112 ∷ 45 ∷ 105 ∷ 110 ∷ []
 
+-- `step-out`.
 abbrev pub word-step-out : List ℕ
 word-step-out = 115 ∷ 116 ∷ 101 ∷ 112 ∷ 45 ∷ 111 ∷ 117 ∷ 116 ∷ []
 
+-- `open`.
 abbrev pub word-open : List ℕ
 word-open = 111 ∷ 112 ∷ 101 ∷ 110 ∷ []
 
+-- `close`.
 abbrev pub word-close : List ℕ
 word-close = 99 ∷ 108 ∷ 111 ∷ 115 ∷ 101 ∷ []
 
+-- `poll`.
 abbrev pub word-poll : List ℕ
 word-poll = 112 ∷ 111 ∷ 108 ∷ 108 ∷ []
 
+-- `irq`.
 abbrev pub word-irq : List ℕ
 word-irq = 105 ∷ 114 ∷ 113 ∷ []
 
+-- `detect`.
 abbrev pub word-detect : List ℕ
 word-detect = 100 ∷ 101 ∷ 116 ∷ 101 ∷ 99 ∷ 116 ∷ []
 
--- A line of one word.
+-- `fresh`, `cancel` and `record`, which stand alone on their line.
 unfoldable pub aloneOf : List ℕ → Command
 aloneOf line = cond (sameText line word-fresh) Fresh (cond (sameText line word-cancel) Cancel (cond (sameText line word-record) Record Wrong))
 
--- By a line's first word: the begins, the pipes, the others.
+-- By a line's first word: the begins; any other line is one word.
 unfoldable pub beginOf : List ℕ → List ℕ → List ℕ → Reading
 beginOf word line out =
     cond (sameText word word-control-in) (reading (controlInOf line) out)
@@ -279,26 +314,23 @@ beginOf word line out =
     (cond (sameText word word-bulk-in) (reading (bulkInOf line) out)
     (cond (sameText word word-bulk-out) (bulkOutOf line out) (reading (aloneOf line) out)))))
 
-unfoldable pub pipeOf : List ℕ → List ℕ → Command
-pipeOf word line =
-    cond (sameText word word-open) (openOf line)
-    (cond (sameText word word-close) (closeOf line)
-    (cond (sameText word word-poll) (pollOf line)
-    (cond (sameText word word-irq) (irqOf line)
-    (cond (sameText word word-detect) (detectOf line) Wrong))))
+-- The pipes, the interrupt routine and detection; any other word is a begin's or stands alone.
+unfoldable pub pipeOf : List ℕ → List ℕ → List ℕ → Reading
+pipeOf word line out =
+    cond (sameText word word-open) (reading (openOf line) out)
+    (cond (sameText word word-close) (reading (closeOf line) out)
+    (cond (sameText word word-poll) (reading (pollOf line) out)
+    (cond (sameText word word-irq) (reading (irqOf line) out)
+    (cond (sameText word word-detect) (reading (detectOf line) out) (beginOf word line out)))))
 
--- Whether a word is one of the pipes'.
-unfoldable pub isPipe : List ℕ → Bool
-isPipe word = sameText word word-open || (sameText word word-close || (sameText word word-poll || (sameText word word-irq || sameText word word-detect)))
-
+-- The steps, and what the hardware or the lender does; any other word is looked up among the pipes'.
 unfoldable pub callOf : List ℕ → List ℕ → List ℕ → Reading
 callOf word line out =
     cond (sameText word word-step-in) (reading (stepInOf line) out)
     (cond (sameText word word-step-out) (reading (stepOutOf line) out)
     (cond (sameText word word-buffer) (bufferOf line out)
     (cond (sameText word word-pm) (memoryOf line out)
-    (cond (sameText word word-lend) (reading (lendOf line) out)
-    (cond (isPipe word) (reading (pipeOf word line) out) (beginOf word line out))))))
+    (cond (sameText word word-lend) (reading (lendOf line) out) (pipeOf word line out)))))
 
 -- "Empty lines and lines that begin with `#` are skipped."
 unfoldable pub lineOf : List ℕ → List ℕ → Reading

@@ -24,10 +24,11 @@ unfoldable pub partsOf : ℕ → List ℕ → ℕ
 partsOf sep [] = 1
 partsOf sep (b ∷ bs) = cond (eqb b sep) 1 0 + partsOf sep bs
 
--- A line's fields.
+-- "Fields separated by one space": a line's field number k.
 abbrev pub fieldOf : List ℕ → ℕ → List ℕ
 fieldOf line k = partOf 32 line k
 
+-- How many fields a line has.
 abbrev pub fieldsOf : List ℕ → ℕ
 fieldsOf line = partsOf 32 line
 

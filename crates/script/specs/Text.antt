@@ -12,10 +12,11 @@ use Rattle.io.specs.Digits.{glyph, digits, Fewest}
 abbrev pub fits : List ℕ → ℕ → List ℕ → Bool
 fits out at text = leb (at + length text) (length out)
 
--- What the lent bytes and the place are afterwards: what does not fit is left out.
+-- The lent bytes afterwards: a text that doesn't fit is left out.
 unfoldable pub placed : List ℕ → ℕ → List ℕ → List ℕ
 placed out at text = cond (fits out at text) (sets out at text) out
 
+-- The place after it.
 unfoldable pub placeAfter : List ℕ → ℕ → List ℕ → ℕ
 placeAfter out at text = cond (fits out at text) (at + length text) at
 
@@ -24,7 +25,7 @@ pub record Placed (out : List ℕ) (at : ℕ) (text out′ : List ℕ) (at′ : 
   pub bytes : out′ ≡ placed out at text
   pub next : at′ ≡ placeAfter out at text
 
--- A number in decimal, without padding: the fewest digits that hold it.
+-- "Output numbers are decimal": the fewest digits that hold the number.
 pub record PlacedDecimal (out : List ℕ) (at n : ℕ) (out′ : List ℕ) (at′ : ℕ) : Type 0 where
   pub count : ℕ
   pub fewest : Fewest 10 1 n count
@@ -40,7 +41,7 @@ unfoldable pub pairsText : List ℕ → List ℕ
 pairsText [] = 45 ∷ []
 pairsText (b ∷ bs) = hexOf (b ∷ bs)
 
--- `0x`, and then the number in hexadecimal: the fewest digits that hold it, and no fewer than the width.
+-- "Each 0x and 8 digits", "as 0x and 4 digits": `0x`, and the fewest digits that hold the number, no fewer than the width.
 pub record PlacedHex (out : List ℕ) (at width n : ℕ) (out′ : List ℕ) (at′ : ℕ) : Type 0 where
   pub middle : List ℕ
   pub place : ℕ

@@ -1,4 +1,5 @@
 // The lines of begins.
+use crate::bytes::LONGEST;
 use crate::bytes::OptionCount;
 use crate::command::Bulk;
 use crate::command::Command;
@@ -131,7 +132,7 @@ pub(crate) fn read_control_in(line: &[u8]) -> Command
     let OptionControl::Some(c) = f1 else {
         return Command::Wrong;
     };
-    let f2 = length_at(line, 5, 131072);
+    let f2 = length_at(line, 5, LONGEST);
     let OptionCount::Some(n) = f2 else {
         return Command::Wrong;
     };
@@ -172,7 +173,7 @@ pub(crate) fn read_bulk_in(line: &[u8]) -> Command
     let OptionBulk::Some(c) = f1 else {
         return Command::Wrong;
     };
-    let f2 = length_at(line, 6, 131072);
+    let f2 = length_at(line, 6, LONGEST);
     let OptionCount::Some(n) = f2 else {
         return Command::Wrong;
     };

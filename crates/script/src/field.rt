@@ -40,7 +40,7 @@ fn rest<'a>(text: &'a [u8], sep: u8) -> &'a [u8]
 }
 
 // Part number `k`; past the last one it is empty.
-pub fn part<'a>(text: &'a [u8], sep: u8, k: usize) -> &'a [u8]
+pub(crate) fn part<'a>(text: &'a [u8], sep: u8, k: usize) -> &'a [u8]
     ensures { λ r. ⌜ now r ≡ partOf sep (now (text .entry)) k ⌝ }
 {
     if k == 0 {
@@ -56,7 +56,7 @@ fn weight(b: bool) -> usize
 }
 
 // How many parts there are.
-pub fn parts(text: &[u8], sep: u8) -> usize
+pub(crate) fn parts(text: &[u8], sep: u8) -> usize
     ensures { λ r. ⌜ r ≡ partsOf sep (now (text .entry)) ⌝ }
 {
     let mut count: usize = 1;
@@ -69,7 +69,7 @@ pub fn parts(text: &[u8], sep: u8) -> usize
 }
 
 // Whether two texts are the same.
-pub fn same(a: &[u8], b: &[u8]) -> bool
+pub(crate) fn same(a: &[u8], b: &[u8]) -> bool
     ensures { λ r. ⌜ r ≡ sameText (now (a .entry)) (now (b .entry)) ⌝ }
 {
     if a.len() != b.len() {

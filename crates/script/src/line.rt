@@ -18,7 +18,7 @@ use crate::command::Command;
 use crate::field::same;
 use crate::typed::field;
 ghost use mathlib.Core.Path.{_≡_};
-ghost use Rattle.script.specs.Lines.{aloneOf, beginOf, pipeOf, isPipe, callOf, lineOf};
+ghost use Rattle.script.specs.Lines.{aloneOf, beginOf, pipeOf, callOf, lineOf};
 
 fn read_alone(line: &[u8]) -> Command
     ensures { λ r. ⌜ r ≡ aloneOf (now (line .entry)) ⌝ }
@@ -56,8 +56,8 @@ fn read_begin(word: &[u8], line: &[u8], out: &mut [u8; 131072]) -> Command
     read_alone(line)
 }
 
-fn read_pipe(word: &[u8], line: &[u8]) -> Command
-    ensures { λ r. ⌜ r ≡ pipeOf (now (word .entry)) (now (line .entry)) ⌝ }
+fn read_pipe(word: &[u8], line: &[u8], out: &mut [u8; 131072]) -> Command
+    ensures { λ r. ⌜ (r ≡ pipeOf (now (word .entry)) (now (line .entry)) (now (out .entry)) .command) × (now (out .exit) ≡ pipeOf (now (word .entry)) (now (line .entry)) (now (out .entry)) .stored) ⌝ }
 {
     if same(word, b"open") {
         return read_open(line);
@@ -74,25 +74,7 @@ fn read_pipe(word: &[u8], line: &[u8]) -> Command
     if same(word, b"detect") {
         return read_detect(line);
     }
-    Command::Wrong
-}
-
-fn is_pipe(word: &[u8]) -> bool
-    ensures { λ r. ⌜ r ≡ isPipe (now (word .entry)) ⌝ }
-{
-    if same(word, b"open") {
-        return true;
-    }
-    if same(word, b"close") {
-        return true;
-    }
-    if same(word, b"poll") {
-        return true;
-    }
-    if same(word, b"irq") {
-        return true;
-    }
-    same(word, b"detect")
+    read_begin(word, line, out)
 }
 
 fn read_call(word: &[u8], line: &[u8], out: &mut [u8; 131072]) -> Command
@@ -113,10 +95,7 @@ fn read_call(word: &[u8], line: &[u8], out: &mut [u8; 131072]) -> Command
     if same(word, b"lend") {
         return read_lend(line);
     }
-    if is_pipe(word) {
-        return read_pipe(word, line);
-    }
-    read_begin(word, line, out)
+    read_pipe(word, line, out)
 }
 
 // What a line without its LF asks for. Its BYTES come at the start of those lent, which stay as they are where it has none.

@@ -9,7 +9,7 @@ pub enum OptionNumber {
 }
 
 // A digit's value; 16 for a byte that is no digit.
-pub fn digit(b: u8) -> u64
+pub(crate) fn digit(b: u8) -> u64
     ensures { λ r. ⌜ (r ≡ digitOf b) × (r ≤ 16) ⌝ }
 {
     if b < b'0' {
@@ -71,7 +71,7 @@ fn is_hex(text: &[u8]) -> bool
 }
 
 // The number of a text, if it is one and at most `most`.
-pub fn number(text: &[u8], most: u32) -> OptionNumber
+pub(crate) fn number(text: &[u8], most: u32) -> OptionNumber
     ensures { λ r. ⌜ r ≡ numberOf (now (text .entry)) most ⌝ }
 {
     if is_hex(text) {

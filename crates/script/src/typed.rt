@@ -45,21 +45,21 @@ pub enum OptionSetup {
 const SPACE: u8 = b' ';
 
 // How many fields a line has.
-pub fn fields(line: &[u8]) -> usize
+pub(crate) fn fields(line: &[u8]) -> usize
     ensures { λ r. ⌜ r ≡ fieldsOf (now (line .entry)) ⌝ }
 {
     parts(line, SPACE)
 }
 
 // Field number k.
-pub fn field<'a>(line: &'a [u8], k: usize) -> &'a [u8]
+pub(crate) fn field<'a>(line: &'a [u8], k: usize) -> &'a [u8]
     ensures { λ r. ⌜ now r ≡ fieldOf (now (line .entry)) k ⌝ }
 {
     part(line, SPACE, k)
 }
 
 // A number up to 255.
-pub fn byte_at(line: &[u8], k: usize) -> OptionByte
+pub(crate) fn byte_at(line: &[u8], k: usize) -> OptionByte
     ensures { λ r. ⌜ r ≡ byteAt (now (line .entry)) k ⌝ }
 {
     let f = number(field(line, k), 255);
@@ -70,7 +70,7 @@ pub fn byte_at(line: &[u8], k: usize) -> OptionByte
 }
 
 // A number up to 65,535.
-pub fn half_at(line: &[u8], k: usize) -> OptionHalf
+pub(crate) fn half_at(line: &[u8], k: usize) -> OptionHalf
     ensures { λ r. ⌜ r ≡ halfAt (now (line .entry)) k ⌝ }
 {
     let f = number(field(line, k), 65535);
@@ -81,7 +81,7 @@ pub fn half_at(line: &[u8], k: usize) -> OptionHalf
 }
 
 // A register's word.
-pub fn word_at(line: &[u8], k: usize) -> OptionWord
+pub(crate) fn word_at(line: &[u8], k: usize) -> OptionWord
     ensures { λ r. ⌜ r ≡ wordAt (now (line .entry)) k ⌝ }
 {
     let f = number(field(line, k), 0xFFFF_FFFF);
@@ -92,7 +92,7 @@ pub fn word_at(line: &[u8], k: usize) -> OptionWord
 }
 
 // 0 or 1.
-pub fn bit_at(line: &[u8], k: usize) -> OptionBit
+pub(crate) fn bit_at(line: &[u8], k: usize) -> OptionBit
     ensures { λ r. ⌜ r ≡ bitAt (now (line .entry)) k ⌝ }
 {
     let f = number(field(line, k), 1);
@@ -103,7 +103,7 @@ pub fn bit_at(line: &[u8], k: usize) -> OptionBit
 }
 
 // A number up to `most`, as a length.
-pub fn length_at(line: &[u8], k: usize, most: u32) -> OptionCount
+pub(crate) fn length_at(line: &[u8], k: usize, most: u32) -> OptionCount
     ensures { λ r. ⌜ r ≡ lengthAt (now (line .entry)) k most ⌝ }
 {
     let f = number(field(line, k), most);
@@ -114,7 +114,7 @@ pub fn length_at(line: &[u8], k: usize, most: u32) -> OptionCount
 }
 
 // `variable` is true, `fixed` false.
-pub fn type_at(line: &[u8], k: usize) -> OptionBit
+pub(crate) fn type_at(line: &[u8], k: usize) -> OptionBit
     ensures { λ r. ⌜ r ≡ typeAt (now (line .entry)) k ⌝ }
 {
     if same(field(line, k), b"variable") {
@@ -160,14 +160,14 @@ fn read_setup(text: &[u8]) -> OptionSetup
     OptionSetup::Some(setup_of(text))
 }
 
-pub fn setup_at(line: &[u8], k: usize) -> OptionSetup
+pub(crate) fn setup_at(line: &[u8], k: usize) -> OptionSetup
     ensures { λ r. ⌜ r ≡ setupAt (now (line .entry)) k ⌝ }
 {
     read_setup(field(line, k))
 }
 
 // BYTES, put at the start of those lent.
-pub fn bytes_at(line: &[u8], k: usize, out: &mut [u8; 131072]) -> OptionCount
+pub(crate) fn bytes_at(line: &[u8], k: usize, out: &mut [u8; 131072]) -> OptionCount
     ensures { λ r. ⌜ (r ≡ countAt (now (line .entry)) k) × (now (out .exit) ≡ storedAt (now (out .entry)) (now (line .entry)) k) ⌝ }
 {
     bytes(field(line, k), out)

@@ -1,14 +1,13 @@
 -- `read_bulk` is `bulkOf`, field by field.
 -- Assumes nothing.
-use mathlib.Core.Path.{_≡_, refl, sym, ap, _∙_}
+use mathlib.Core.Path.{sym, _∙_}
 use borrow.Author.Tests.{eq-eqb, ne-eqb}
 use Rattle.script.specs.Lines.{bulkOf}
-use borrow.Author.Needs.{needs}
 use Rattle.script.proofs.begins.read_bulk.Statement.{statement}
 use Rattle.script.proofs.begins.read_bulk.Tie as tie
 
 fields-requires : tie.Need-fields-requires
-fields-requires c κs = search needs
+fields-requires c κs = tt
 
 returns : tie.Need-returns
 unfolding bulkOf
@@ -18,13 +17,13 @@ returns c =
     simp (ne-eqb _ _ (λ e. if1 (fields .ensures ∙ e)))
 
 byte-at-requires : tie.Need-byte-at-requires
-byte-at-requires c κs = search needs
+byte-at-requires c κs = tt
 
 enum-known-f1 : tie.Need-enum-known-f1
-enum-known-f1 c = search needs
+enum-known-f1 c = c .match .keys1
 
 enum-told : tie.Need-enum-told
-enum-told c = search needs
+enum-told c = c .match .keys2
 
 returns-2 : tie.Need-returns-2
 unfolding bulkOf
@@ -36,13 +35,13 @@ returns-2 c =
     simp (eq-eqb _ _ (sym (fields .ensures) ∙ if1), sym (byte-at .ensures) ∙ enum-told .given .1)
 
 byte-at-requires-2 : tie.Need-byte-at-requires-2
-byte-at-requires-2 c κs = search needs
+byte-at-requires-2 c κs = tt
 
 enum-known-f2 : tie.Need-enum-known-f2
-enum-known-f2 c = search needs
+enum-known-f2 c = c .match2 .keys1
 
 enum-told-2 : tie.Need-enum-told-2
-enum-told-2 c = search needs
+enum-told-2 c = c .match2 .keys2
 
 returns-3 : tie.Need-returns-3
 unfolding bulkOf
@@ -56,13 +55,13 @@ returns-3 c =
     simp (eq-eqb _ _ (sym (fields .ensures) ∙ if1), sym (byte-at .ensures) ∙ f1 .given .1, sym (byte-at2 .ensures) ∙ enum-told2 .given .1)
 
 half-at-requires : tie.Need-half-at-requires
-half-at-requires c κs = search needs
+half-at-requires c κs = tt
 
 enum-known-f3 : tie.Need-enum-known-f3
-enum-known-f3 c = search needs
+enum-known-f3 c = c .match3 .keys1
 
 enum-told-3 : tie.Need-enum-told-3
-enum-told-3 c = search needs
+enum-told-3 c = c .match3 .keys2
 
 returns-4 : tie.Need-returns-4
 unfolding bulkOf
@@ -78,13 +77,13 @@ returns-4 c =
     simp (eq-eqb _ _ (sym (fields .ensures) ∙ if1), sym (byte-at .ensures) ∙ f1 .given .1, sym (byte-at2 .ensures) ∙ f2 .given .1, sym (half-at .ensures) ∙ enum-told3 .given .1)
 
 type-at-requires : tie.Need-type-at-requires
-type-at-requires c κs = search needs
+type-at-requires c κs = tt
 
 enum-known-f4 : tie.Need-enum-known-f4
-enum-known-f4 c = search needs
+enum-known-f4 c = c .match4 .keys1
 
 enum-told-4 : tie.Need-enum-told-4
-enum-told-4 c = search needs
+enum-told-4 c = c .match4 .keys2
 
 returns-5 : tie.Need-returns-5
 unfolding bulkOf
@@ -102,13 +101,13 @@ returns-5 c =
     simp (eq-eqb _ _ (sym (fields .ensures) ∙ if1), sym (byte-at .ensures) ∙ f1 .given .1, sym (byte-at2 .ensures) ∙ f2 .given .1, sym (half-at .ensures) ∙ f3 .given .1, sym (type-at .ensures) ∙ enum-told4 .given .1)
 
 bit-at-requires : tie.Need-bit-at-requires
-bit-at-requires c κs = search needs
+bit-at-requires c κs = tt
 
 enum-known-f5 : tie.Need-enum-known-f5
-enum-known-f5 c = search needs
+enum-known-f5 c = c .match5 .keys1
 
 enum-told-5 : tie.Need-enum-told-5
-enum-told-5 c = search needs
+enum-told-5 c = c .match5 .keys2
 
 returns-6 : tie.Need-returns-6
 unfolding bulkOf

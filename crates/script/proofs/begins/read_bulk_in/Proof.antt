@@ -1,19 +1,18 @@
 -- `read_bulk_in` is `bulkInOf`: its fields, then LEN.
 -- Assumes nothing.
-use mathlib.Core.Path.{_≡_, refl, sym, ap, _∙_}
+use mathlib.Core.Path.{sym, _∙_}
 use Rattle.script.specs.Lines.{bulkInOf}
-use borrow.Author.Needs.{needs}
 use Rattle.script.proofs.begins.read_bulk_in.Statement.{statement}
 use Rattle.script.proofs.begins.read_bulk_in.Tie as tie
 
 read-bulk-requires : tie.Need-read-bulk-requires
-read-bulk-requires c κs = search needs
+read-bulk-requires c κs = tt
 
 enum-known-f1 : tie.Need-enum-known-f1
-enum-known-f1 c = search needs
+enum-known-f1 c = c .match .keys1
 
 enum-told : tie.Need-enum-told
-enum-told c = search needs
+enum-told c = c .match .keys2
 
 returns : tie.Need-returns
 unfolding bulkInOf
@@ -23,13 +22,13 @@ returns c =
     simp (sym (read-bulk .ensures) ∙ enum-told .given .1)
 
 length-at-requires : tie.Need-length-at-requires
-length-at-requires c κs = search needs
+length-at-requires c κs = tt
 
 enum-known-f2 : tie.Need-enum-known-f2
-enum-known-f2 c = search needs
+enum-known-f2 c = c .match2 .keys1
 
 enum-told-2 : tie.Need-enum-told-2
-enum-told-2 c = search needs
+enum-told-2 c = c .match2 .keys2
 
 returns-2 : tie.Need-returns-2
 unfolding bulkInOf
@@ -41,7 +40,7 @@ returns-2 c =
     simp (sym (read-bulk .ensures) ∙ f1 .given .1, sym (length-at .ensures) ∙ enum-told2 .given .1)
 
 bulk-count-requires : tie.Need-bulk-count-requires
-bulk-count-requires c κs = search needs
+bulk-count-requires c κs = tt
 
 returns-3 : tie.Need-returns-3
 unfolding bulkInOf

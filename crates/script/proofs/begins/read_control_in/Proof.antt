@@ -1,19 +1,18 @@
 -- `read_control_in` is `controlInOf`: its fields, then LEN.
 -- Assumes nothing.
-use mathlib.Core.Path.{_≡_, refl, sym, ap, _∙_}
+use mathlib.Core.Path.{sym, _∙_}
 use Rattle.script.specs.Lines.{controlInOf}
-use borrow.Author.Needs.{needs}
 use Rattle.script.proofs.begins.read_control_in.Statement.{statement}
 use Rattle.script.proofs.begins.read_control_in.Tie as tie
 
 read-control-requires : tie.Need-read-control-requires
-read-control-requires c κs = search needs
+read-control-requires c κs = tt
 
 enum-known-f1 : tie.Need-enum-known-f1
-enum-known-f1 c = search needs
+enum-known-f1 c = c .match .keys1
 
 enum-told : tie.Need-enum-told
-enum-told c = search needs
+enum-told c = c .match .keys2
 
 returns : tie.Need-returns
 unfolding controlInOf
@@ -23,13 +22,13 @@ returns c =
     simp (sym (read-control .ensures) ∙ enum-told .given .1)
 
 length-at-requires : tie.Need-length-at-requires
-length-at-requires c κs = search needs
+length-at-requires c κs = tt
 
 enum-known-f2 : tie.Need-enum-known-f2
-enum-known-f2 c = search needs
+enum-known-f2 c = c .match2 .keys1
 
 enum-told-2 : tie.Need-enum-told-2
-enum-told-2 c = search needs
+enum-told-2 c = c .match2 .keys2
 
 returns-2 : tie.Need-returns-2
 unfolding controlInOf
@@ -41,7 +40,7 @@ returns-2 c =
     simp (sym (read-control .ensures) ∙ f1 .given .1, sym (length-at .ensures) ∙ enum-told2 .given .1)
 
 control-count-requires : tie.Need-control-count-requires
-control-count-requires c κs = search needs
+control-count-requires c κs = tt
 
 returns-3 : tie.Need-returns-3
 unfolding controlInOf

@@ -1,19 +1,18 @@
 -- `read_control_none` is `controlNoneOf`: its fields alone.
 -- Assumes nothing.
-use mathlib.Core.Path.{_≡_, refl, sym, ap, _∙_}
+use mathlib.Core.Path.{sym, _∙_}
 use Rattle.script.specs.Lines.{controlNoneOf}
-use borrow.Author.Needs.{needs}
 use Rattle.script.proofs.begins.read_control_none.Statement.{statement}
 use Rattle.script.proofs.begins.read_control_none.Tie as tie
 
 read-control-requires : tie.Need-read-control-requires
-read-control-requires c κs = search needs
+read-control-requires c κs = tt
 
 enum-known-f1 : tie.Need-enum-known-f1
-enum-known-f1 c = search needs
+enum-known-f1 c = c .match .keys1
 
 enum-told : tie.Need-enum-told
-enum-told c = search needs
+enum-told c = c .match .keys2
 
 returns : tie.Need-returns
 unfolding controlNoneOf

@@ -4,8 +4,7 @@ use mathlib.Core.Path.{_≡_, refl, sym}
 use Prim.Native.Nat.{_-_, _≤_}
 use lib.ListN.{length, drop}
 use Rattle.script.specs.Numbers.{allDigits}
-use Rattle.script.proofs.Storing.{hex-more, hex-not, hex-end}
-use borrow.Author.Needs.{needs}
+use Rattle.script.proofs.Spelling.{digits-more, digits-not, digits-end}
 use native.Mathlib.Omega.{arith}
 use denote.Ref.{now}
 use Rattle.script.proofs.bytes.all_hex.Statement.{statement}
@@ -24,7 +23,7 @@ shared-slice-read-digit : tie.Need-shared-slice-read-digit Inv-loop μ-loop
 shared-slice-read-digit c = omega arith
 
 digit-requires : tie.Need-digit-requires Inv-loop μ-loop
-digit-requires c κs = search needs
+digit-requires c κs = tt
 
 returns : tie.Need-returns Inv-loop μ-loop
 returns c =
@@ -33,7 +32,7 @@ returns c =
     let loop-test = c .before .before .before .loop-test .taken in
     let loop = c .before .before .before .before .loop in
     let args = c .before .before .before .before .before .before .args in
-    sym (hex-not (now (args .text)) (loop .i) loop-test (omega (arith, if1, digit .ensures .0)) (loop .inv .0))
+    sym (digits-not 16 (now (args .text)) (loop .i) loop-test (omega (arith, if1, digit .ensures .0)) (loop .inv .0))
 
 add-i : tie.Need-add-i Inv-loop μ-loop
 add-i c = omega arith
@@ -48,13 +47,13 @@ loop-again c =
     let loop-test = c .before .before .before .loop-test .taken in
     let loop = c .before .before .before .before .loop in
     let args = c .before .before .before .before .before .before .args in
-    (hex-more (now (args .text)) (loop .i) loop-test (omega (arith, if1, digit .ensures .0)) (loop .inv .0), omega arith)
+    (digits-more 16 (now (args .text)) (loop .i) loop-test (omega (arith, if1, digit .ensures .0)) (loop .inv .0), omega arith)
 
 returns-2 : tie.Need-returns-2 Inv-loop μ-loop
 returns-2 c =
     let loop = c .before .loop in
     let args = c .before .before .before .args in
-    sym (hex-end (now (args .text)) (loop .i) (omega arith) (loop .inv .0))
+    sym (digits-end 16 (now (args .text)) (loop .i) (omega arith) (loop .inv .0))
 
 pub all-hex-spec : {M : Type 1} → statement M
 all-hex-spec =

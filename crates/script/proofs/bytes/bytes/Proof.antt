@@ -1,16 +1,15 @@
 -- `bytes` is `bytesOf`: none, a rule, or pairs.
 -- Assumes nothing.
-use mathlib.Core.Path.{_≡_, sym, ap, _∙_}
+use mathlib.Core.Path.{refl, sym, _∙_}
 use Rattle.script.specs.Bytes.{bytesOf, countIn, storedIn}
-use borrow.Author.Needs.{needs}
 use Rattle.script.proofs.bytes.bytes.Statement.{statement}
 use Rattle.script.proofs.bytes.bytes.Tie as tie
 
 slice-aggregate-same : tie.Need-slice-aggregate-same
-slice-aggregate-same c = search needs
+slice-aggregate-same c = refl
 
 same-requires : tie.Need-same-requires
-same-requires c κs = search needs
+same-requires c κs = tt
 
 returns : tie.Need-returns
 unfolding bytesOf countIn storedIn
@@ -20,10 +19,10 @@ returns c =
     (simp (sym (same .ensures) ∙ if1), simp (sym (same .ensures) ∙ if1))
 
 is-seq-requires : tie.Need-is-seq-requires
-is-seq-requires c κs = search needs
+is-seq-requires c κs = tt
 
 seq-bytes-requires : tie.Need-seq-bytes-requires
-seq-bytes-requires c κs = search needs
+seq-bytes-requires c κs = tt
 
 returns-2 : tie.Need-returns-2
 unfolding bytesOf
@@ -36,7 +35,7 @@ returns-2 c =
     (simp (sym (same .ensures) ∙ if1, sym (is-seq .ensures) ∙ if2) (seq-bytes .ensures .0), simp (sym (same .ensures) ∙ if1, sym (is-seq .ensures) ∙ if2) (seq-bytes .ensures .1))
 
 hex-bytes-requires : tie.Need-hex-bytes-requires
-hex-bytes-requires c κs = search needs
+hex-bytes-requires c κs = tt
 
 returns-3 : tie.Need-returns-3
 unfolding bytesOf

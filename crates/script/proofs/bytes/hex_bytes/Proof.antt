@@ -1,10 +1,9 @@
 -- `hex_bytes` is `hexBytes`, test by test, then the bytes of the pairs.
 -- Assumes nothing.
-use mathlib.Core.Path.{_≡_, sym, ap, _∙_}
+use mathlib.Core.Path.{sym, _∙_}
 use borrow.Author.Tests.{not-true, not-false}
 use Rattle.script.specs.Bytes.{countIn, storedIn}
 use Rattle.script.proofs.Storing.{hex-empty, hex-long, hex-odd, hex-bad, hex-whole}
-use borrow.Author.Needs.{needs}
 use native.Mathlib.Omega.{arith}
 use denote.Ref.{now}
 use Rattle.script.proofs.bytes.hex_bytes.Statement.{statement}
@@ -32,7 +31,7 @@ returns-3 c =
     let e = hex-odd (now (args .text)) if3 in (simp e, simp e)
 
 all-hex-requires : tie.Need-all-hex-requires
-all-hex-requires c κs = search needs
+all-hex-requires c κs = tt
 
 returns-4 : tie.Need-returns-4
 unfolding countIn storedIn

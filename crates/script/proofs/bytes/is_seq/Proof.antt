@@ -1,13 +1,12 @@
 -- `is_seq` is `isSeq`, test by test.
 -- Assumes nothing.
-use mathlib.Core.Path.{sym, _∙_}
+use mathlib.Core.Path.{refl, sym, _∙_}
 use borrow.Author.Tests.{eq-eqb, ne-eqb}
-use borrow.Author.Needs.{needs}
 use Rattle.script.proofs.bytes.is_seq.Statement.{statement}
 use Rattle.script.proofs.bytes.is_seq.Tie as tie
 
 parts-requires : tie.Need-parts-requires
-parts-requires c κs = search needs
+parts-requires c κs = tt
 
 returns : tie.Need-returns
 returns c =
@@ -16,13 +15,13 @@ returns c =
     simp (sym (parts .ensures), ne-eqb _ _ if1)
 
 part-requires : tie.Need-part-requires
-part-requires c κs = search needs
+part-requires c κs = tt
 
 slice-aggregate-same : tie.Need-slice-aggregate-same
-slice-aggregate-same c = search needs
+slice-aggregate-same c = refl
 
 same-requires : tie.Need-same-requires
-same-requires c κs = search needs
+same-requires c κs = tt
 
 returns-2 : tie.Need-returns-2
 returns-2 c =

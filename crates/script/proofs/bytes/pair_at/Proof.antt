@@ -1,6 +1,6 @@
 -- `pair_at` is the byte of digits 2i and 2i + 1.
 -- Assumes nothing.
-use mathlib.Core.Path.{_≡_, sym, _∙_}
+use mathlib.Core.Path.{sym, _∙_}
 use Prim.Native.Nat.{_+_, _*_}
 use Rattle.script.proofs.Storing.{hex-at, pairs-at}
 use borrow.Author.Needs.{needs}

@@ -1,10 +1,10 @@
 -- `put_seq` stores the bytes of the rule. The invariant: the first i are stored.
 -- The measure is how many are left. Assumes nothing.
-use mathlib.Core.Path.{_≡_, refl, sym, ap, _∙_}
-use Prim.Native.Nat.{ℕ, _+_, _-_, _≤_}
-use lib.ListN.{length, take, set}
+use mathlib.Core.Path.{_≡_, refl, ap, _∙_}
+use Prim.Native.Nat.{_-_, _≤_}
+use lib.ListN.{take}
 use lib.Seq.{sets, take-all}
-use Rattle.script.specs.Bytes.{seqAt, seqFrom}
+use Rattle.script.specs.Bytes.{seqFrom}
 use Rattle.script.proofs.Storing.{store-more, seq-length, seq-here}
 use native.Mathlib.Omega.{arith}
 use denote.Ref.{now}

@@ -1,14 +1,13 @@
 -- `read_buffer` is `bufferOf`: the bytes, or none.
 -- Assumes nothing.
-use mathlib.Core.Path.{_≡_, refl, sym, ap, _∙_}
+use mathlib.Core.Path.{sym, _∙_}
 use borrow.Author.Tests.{eq-eqb, ne-eqb}
 use Rattle.script.specs.Lines.{bufferOf}
-use borrow.Author.Needs.{needs}
 use Rattle.script.proofs.calls.read_buffer.Statement.{statement}
 use Rattle.script.proofs.calls.read_buffer.Tie as tie
 
 fields-requires : tie.Need-fields-requires
-fields-requires c κs = search needs
+fields-requires c κs = tt
 
 returns : tie.Need-returns
 unfolding bufferOf
@@ -18,13 +17,13 @@ returns c =
     (simp (ne-eqb _ _ (λ e. if1 (fields .ensures ∙ e))), simp (ne-eqb _ _ (λ e. if1 (fields .ensures ∙ e))))
 
 bytes-at-requires : tie.Need-bytes-at-requires
-bytes-at-requires c κs = search needs
+bytes-at-requires c κs = tt
 
 enum-known-f1 : tie.Need-enum-known-f1
-enum-known-f1 c = search needs
+enum-known-f1 c = c .match .keys1
 
 enum-told : tie.Need-enum-told
-enum-told c = search needs
+enum-told c = c .match .keys2
 
 returns-2 : tie.Need-returns-2
 unfolding bufferOf

@@ -1,14 +1,13 @@
 -- `read_irq` is `irqOf`, field by field.
 -- Assumes nothing.
-use mathlib.Core.Path.{_≡_, refl, sym, ap, _∙_}
+use mathlib.Core.Path.{sym, _∙_}
 use borrow.Author.Tests.{eq-eqb, ne-eqb}
 use Rattle.script.specs.Lines.{irqOf}
-use borrow.Author.Needs.{needs}
 use Rattle.script.proofs.calls.read_irq.Statement.{statement}
 use Rattle.script.proofs.calls.read_irq.Tie as tie
 
 fields-requires : tie.Need-fields-requires
-fields-requires c κs = search needs
+fields-requires c κs = tt
 
 returns : tie.Need-returns
 unfolding irqOf
@@ -18,13 +17,13 @@ returns c =
     simp (ne-eqb _ _ (λ e. if1 (fields .ensures ∙ e)))
 
 word-at-requires : tie.Need-word-at-requires
-word-at-requires c κs = search needs
+word-at-requires c κs = tt
 
 enum-known-f1 : tie.Need-enum-known-f1
-enum-known-f1 c = search needs
+enum-known-f1 c = c .match .keys1
 
 enum-told : tie.Need-enum-told
-enum-told c = search needs
+enum-told c = c .match .keys2
 
 returns-2 : tie.Need-returns-2
 unfolding irqOf
@@ -36,13 +35,13 @@ returns-2 c =
     simp (eq-eqb _ _ (sym (fields .ensures) ∙ if1), sym (word-at .ensures) ∙ enum-told .given .1)
 
 word-at-requires-2 : tie.Need-word-at-requires-2
-word-at-requires-2 c κs = search needs
+word-at-requires-2 c κs = tt
 
 enum-known-f2 : tie.Need-enum-known-f2
-enum-known-f2 c = search needs
+enum-known-f2 c = c .match2 .keys1
 
 enum-told-2 : tie.Need-enum-told-2
-enum-told-2 c = search needs
+enum-told-2 c = c .match2 .keys2
 
 returns-3 : tie.Need-returns-3
 unfolding irqOf

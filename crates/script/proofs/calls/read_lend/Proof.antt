@@ -1,14 +1,13 @@
 -- `read_lend` is `lendOf`, field by field.
 -- Assumes nothing.
-use mathlib.Core.Path.{_≡_, refl, sym, ap, _∙_}
+use mathlib.Core.Path.{sym, _∙_}
 use borrow.Author.Tests.{eq-eqb, ne-eqb}
 use Rattle.script.specs.Lines.{lendOf}
-use borrow.Author.Needs.{needs}
 use Rattle.script.proofs.calls.read_lend.Statement.{statement}
 use Rattle.script.proofs.calls.read_lend.Tie as tie
 
 fields-requires : tie.Need-fields-requires
-fields-requires c κs = search needs
+fields-requires c κs = tt
 
 returns : tie.Need-returns
 unfolding lendOf
@@ -18,13 +17,13 @@ returns c =
     simp (ne-eqb _ _ (λ e. if1 (fields .ensures ∙ e)))
 
 length-at-requires : tie.Need-length-at-requires
-length-at-requires c κs = search needs
+length-at-requires c κs = tt
 
 enum-known-f1 : tie.Need-enum-known-f1
-enum-known-f1 c = search needs
+enum-known-f1 c = c .match .keys1
 
 enum-told : tie.Need-enum-told
-enum-told c = search needs
+enum-told c = c .match .keys2
 
 returns-2 : tie.Need-returns-2
 unfolding lendOf
@@ -36,13 +35,13 @@ returns-2 c =
     simp (eq-eqb _ _ (sym (fields .ensures) ∙ if1), sym (length-at .ensures) ∙ enum-told .given .1)
 
 length-at-requires-2 : tie.Need-length-at-requires-2
-length-at-requires-2 c κs = search needs
+length-at-requires-2 c κs = tt
 
 enum-known-f2 : tie.Need-enum-known-f2
-enum-known-f2 c = search needs
+enum-known-f2 c = c .match2 .keys1
 
 enum-told-2 : tie.Need-enum-told-2
-enum-told-2 c = search needs
+enum-told-2 c = c .match2 .keys2
 
 returns-3 : tie.Need-returns-3
 unfolding lendOf

@@ -1,14 +1,13 @@
 -- `read_memory` is `memoryOf`: the offset, the bytes, and where both end.
 -- Assumes nothing.
-use mathlib.Core.Path.{_≡_, refl, sym, ap, _∙_}
+use mathlib.Core.Path.{sym, _∙_}
 use borrow.Author.Tests.{eq-eqb, ne-eqb}
 use Rattle.script.specs.Lines.{memoryOf}
-use borrow.Author.Needs.{needs}
 use Rattle.script.proofs.calls.read_memory.Statement.{statement}
 use Rattle.script.proofs.calls.read_memory.Tie as tie
 
 fields-requires : tie.Need-fields-requires
-fields-requires c κs = search needs
+fields-requires c κs = tt
 
 returns : tie.Need-returns
 unfolding memoryOf
@@ -18,13 +17,13 @@ returns c =
     (simp (ne-eqb _ _ (λ e. if1 (fields .ensures ∙ e))), simp (ne-eqb _ _ (λ e. if1 (fields .ensures ∙ e))))
 
 length-at-requires : tie.Need-length-at-requires
-length-at-requires c κs = search needs
+length-at-requires c κs = tt
 
 enum-known-f1 : tie.Need-enum-known-f1
-enum-known-f1 c = search needs
+enum-known-f1 c = c .match .keys1
 
 enum-told : tie.Need-enum-told
-enum-told c = search needs
+enum-told c = c .match .keys2
 
 returns-2 : tie.Need-returns-2
 unfolding memoryOf
@@ -36,13 +35,13 @@ returns-2 c =
     (simp (eq-eqb _ _ (sym (fields .ensures) ∙ if1), sym (length-at .ensures) ∙ enum-told .given .1), simp (eq-eqb _ _ (sym (fields .ensures) ∙ if1), sym (length-at .ensures) ∙ enum-told .given .1))
 
 bytes-at-requires : tie.Need-bytes-at-requires
-bytes-at-requires c κs = search needs
+bytes-at-requires c κs = tt
 
 enum-known-f2 : tie.Need-enum-known-f2
-enum-known-f2 c = search needs
+enum-known-f2 c = c .match2 .keys1
 
 enum-told-2 : tie.Need-enum-told-2
-enum-told-2 c = search needs
+enum-told-2 c = c .match2 .keys2
 
 returns-3 : tie.Need-returns-3
 unfolding memoryOf
@@ -56,7 +55,7 @@ returns-3 c =
     (simp (eq-eqb _ _ (sym (fields .ensures) ∙ if1), sym (length-at .ensures) ∙ f1 .given .1, sym (bytes-at .ensures .0) ∙ enum-told2 .given .1), simp (eq-eqb _ _ (sym (fields .ensures) ∙ if1), sym (length-at .ensures) ∙ f1 .given .1, sym (bytes-at .ensures .0) ∙ enum-told2 .given .1) (bytes-at .ensures .1))
 
 stored-command-requires : tie.Need-stored-command-requires
-stored-command-requires c κs = search needs
+stored-command-requires c κs = tt
 
 returns-4 : tie.Need-returns-4
 unfolding memoryOf

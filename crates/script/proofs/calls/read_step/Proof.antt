@@ -1,14 +1,13 @@
 -- `read_step` is `stepOf`, field by field.
 -- Assumes nothing.
-use mathlib.Core.Path.{_≡_, refl, sym, ap, _∙_}
+use mathlib.Core.Path.{sym, _∙_}
 use borrow.Author.Tests.{eq-eqb, ne-eqb}
 use Rattle.script.specs.Lines.{stepOf}
-use borrow.Author.Needs.{needs}
 use Rattle.script.proofs.calls.read_step.Statement.{statement}
 use Rattle.script.proofs.calls.read_step.Tie as tie
 
 fields-requires : tie.Need-fields-requires
-fields-requires c κs = search needs
+fields-requires c κs = tt
 
 returns : tie.Need-returns
 unfolding stepOf
@@ -18,13 +17,13 @@ returns c =
     simp (ne-eqb _ _ (λ e. if1 (fields .ensures ∙ e)))
 
 word-at-requires : tie.Need-word-at-requires
-word-at-requires c κs = search needs
+word-at-requires c κs = tt
 
 enum-known-f1 : tie.Need-enum-known-f1
-enum-known-f1 c = search needs
+enum-known-f1 c = c .match .keys1
 
 enum-told : tie.Need-enum-told
-enum-told c = search needs
+enum-told c = c .match .keys2
 
 returns-2 : tie.Need-returns-2
 unfolding stepOf
@@ -36,13 +35,13 @@ returns-2 c =
     simp (eq-eqb _ _ (sym (fields .ensures) ∙ if1), sym (word-at .ensures) ∙ enum-told .given .1)
 
 word-at-requires-2 : tie.Need-word-at-requires-2
-word-at-requires-2 c κs = search needs
+word-at-requires-2 c κs = tt
 
 enum-known-f2 : tie.Need-enum-known-f2
-enum-known-f2 c = search needs
+enum-known-f2 c = c .match2 .keys1
 
 enum-told-2 : tie.Need-enum-told-2
-enum-told-2 c = search needs
+enum-told-2 c = c .match2 .keys2
 
 returns-3 : tie.Need-returns-3
 unfolding stepOf
@@ -56,13 +55,13 @@ returns-3 c =
     simp (eq-eqb _ _ (sym (fields .ensures) ∙ if1), sym (word-at .ensures) ∙ f1 .given .1, sym (word-at2 .ensures) ∙ enum-told2 .given .1)
 
 word-at-requires-3 : tie.Need-word-at-requires-3
-word-at-requires-3 c κs = search needs
+word-at-requires-3 c κs = tt
 
 enum-known-f3 : tie.Need-enum-known-f3
-enum-known-f3 c = search needs
+enum-known-f3 c = c .match3 .keys1
 
 enum-told-3 : tie.Need-enum-told-3
-enum-told-3 c = search needs
+enum-told-3 c = c .match3 .keys2
 
 returns-4 : tie.Need-returns-4
 unfolding stepOf

@@ -1,18 +1,17 @@
 -- `read_step_out` is the step of `stepOf`.
 -- Assumes nothing.
-use mathlib.Core.Path.{_≡_, refl, sym, ap, _∙_}
-use borrow.Author.Needs.{needs}
+use mathlib.Core.Path.{sym, _∙_}
 use Rattle.script.proofs.calls.read_step_out.Statement.{statement}
 use Rattle.script.proofs.calls.read_step_out.Tie as tie
 
 read-step-requires : tie.Need-read-step-requires
-read-step-requires c κs = search needs
+read-step-requires c κs = tt
 
 enum-known-f1 : tie.Need-enum-known-f1
-enum-known-f1 c = search needs
+enum-known-f1 c = c .match .keys1
 
 enum-told : tie.Need-enum-told
-enum-told c = search needs
+enum-told c = c .match .keys2
 
 returns : tie.Need-returns
 returns c =

@@ -8,7 +8,7 @@ use Rattle.script.proofs.field.first_part.Statement.{statement}
 use Rattle.script.proofs.field.first_part.Tie as tie
 
 end-of-requires : tie.Need-end-of-requires
-end-of-requires c κs = search needs
+end-of-requires c κs = tt
 
 slice-aggregate-result : tie.Need-slice-aggregate-result
 slice-aggregate-result c =

@@ -1,12 +1,10 @@
 -- `parts` counts the separators. The invariant: the count so far and the parts of the rest are one more than the parts.
 -- The measure is what is left of the text. Assumes nothing.
-use mathlib.Core.Path.{_≡_, refl, ap}
-use Prim.Native.Nat.{ℕ, suc, _+_, _-_, _≤_}
-use mathlib.Core.List.{List, []}
+use mathlib.Core.Path.{_≡_, ap}
+use Prim.Native.Nat.{suc, _+_, _-_, _≤_}
 use lib.ListN.{length, drop, drop-of-length-le}
 use Rattle.script.specs.Parts.{partsOf}
 use Rattle.script.proofs.Walks.{parts-more, parts-least}
-use borrow.Author.Needs.{needs}
 use native.Mathlib.Omega.{arith}
 use denote.Ref.{now}
 use Rattle.script.proofs.field.parts.Statement.{statement}
@@ -25,7 +23,7 @@ shared-slice-read-weight : tie.Need-shared-slice-read-weight Inv-loop μ-loop
 shared-slice-read-weight c = omega arith
 
 weight-requires : tie.Need-weight-requires Inv-loop μ-loop
-weight-requires c κs = search needs
+weight-requires c κs = tt
 
 add-count : tie.Need-add-count Inv-loop μ-loop
 add-count c =

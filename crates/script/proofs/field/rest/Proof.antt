@@ -1,9 +1,9 @@
 -- `rest` is what stands past the first separator; where there is none, nothing is left.
 -- Assumes nothing.
-use mathlib.Core.Path.{_≡_, ap, sym, _∙_}
+use mathlib.Core.Path.{_≡_, sym, _∙_}
 use Prim.Native.Nat.{_+_, _-_}
-use mathlib.Core.List.{List, []}
-use lib.ListN.{length, take, drop, length-drop, drop-of-length-le}
+use mathlib.Core.List.{[]}
+use lib.ListN.{length, drop, length-drop, drop-of-length-le}
 use lib.Seq.{take-all, take-nil}
 use borrow.Author.Needs.{needs}
 use native.Mathlib.Omega.{arith}
@@ -12,7 +12,7 @@ use Rattle.script.proofs.field.rest.Statement.{statement}
 use Rattle.script.proofs.field.rest.Tie as tie
 
 end-of-requires : tie.Need-end-of-requires
-end-of-requires c κs = search needs
+end-of-requires c κs = tt
 
 add-result : tie.Need-add-result
 add-result c = search needs

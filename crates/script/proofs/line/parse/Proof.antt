@@ -1,6 +1,5 @@
 -- `parse` is `lineOf`: skipped, or by its first word.
 -- Assumes nothing.
-use mathlib.Core.Path.{_≡_, refl, sym, ap, _∙_}
 use borrow.Author.Tests.{eq-eqb, ne-eqb}
 use Rattle.script.specs.Lines.{lineOf}
 use borrow.Author.Needs.{needs}
@@ -24,10 +23,10 @@ returns-2 c =
     (simp (ne-eqb _ _ if1, eq-eqb _ _ if2), simp (ne-eqb _ _ if1, eq-eqb _ _ if2))
 
 field-requires : tie.Need-field-requires
-field-requires c κs = search needs
+field-requires c κs = tt
 
 read-call-requires : tie.Need-read-call-requires
-read-call-requires c κs = search needs
+read-call-requires c κs = tt
 
 returns-3 : tie.Need-returns-3
 unfolding lineOf

@@ -1,16 +1,15 @@
 -- `read_alone` is `aloneOf`, word by word.
 -- Assumes nothing.
-use mathlib.Core.Path.{_≡_, refl, sym, ap, _∙_}
+use mathlib.Core.Path.{refl, sym, _∙_}
 use Rattle.script.specs.Lines.{aloneOf}
-use borrow.Author.Needs.{needs}
 use Rattle.script.proofs.line.read_alone.Statement.{statement}
 use Rattle.script.proofs.line.read_alone.Tie as tie
 
 slice-aggregate-same : tie.Need-slice-aggregate-same
-slice-aggregate-same c = search needs
+slice-aggregate-same c = refl
 
 same-requires : tie.Need-same-requires
-same-requires c κs = search needs
+same-requires c κs = tt
 
 returns : tie.Need-returns
 unfolding aloneOf
@@ -20,10 +19,10 @@ returns c =
     simp (sym (same .ensures) ∙ if1)
 
 slice-aggregate-same-2 : tie.Need-slice-aggregate-same-2
-slice-aggregate-same-2 c = search needs
+slice-aggregate-same-2 c = refl
 
 same-requires-2 : tie.Need-same-requires-2
-same-requires-2 c κs = search needs
+same-requires-2 c κs = tt
 
 returns-2 : tie.Need-returns-2
 unfolding aloneOf
@@ -35,10 +34,10 @@ returns-2 c =
     simp (sym (same .ensures) ∙ if1, sym (same2 .ensures) ∙ if2)
 
 slice-aggregate-same-3 : tie.Need-slice-aggregate-same-3
-slice-aggregate-same-3 c = search needs
+slice-aggregate-same-3 c = refl
 
 same-requires-3 : tie.Need-same-requires-3
-same-requires-3 c κs = search needs
+same-requires-3 c κs = tt
 
 returns-3 : tie.Need-returns-3
 unfolding aloneOf

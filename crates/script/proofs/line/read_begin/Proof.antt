@@ -1,19 +1,18 @@
 -- `read_begin` is `beginOf`, word by word.
 -- Assumes nothing.
-use mathlib.Core.Path.{_≡_, refl, sym, ap, _∙_}
+use mathlib.Core.Path.{refl, sym, _∙_}
 use Rattle.script.specs.Lines.{beginOf}
-use borrow.Author.Needs.{needs}
 use Rattle.script.proofs.line.read_begin.Statement.{statement}
 use Rattle.script.proofs.line.read_begin.Tie as tie
 
 slice-aggregate-same : tie.Need-slice-aggregate-same
-slice-aggregate-same c = search needs
+slice-aggregate-same c = refl
 
 same-requires : tie.Need-same-requires
-same-requires c κs = search needs
+same-requires c κs = tt
 
 read-control-in-requires : tie.Need-read-control-in-requires
-read-control-in-requires c κs = search needs
+read-control-in-requires c κs = tt
 
 returns : tie.Need-returns
 unfolding beginOf
@@ -24,13 +23,13 @@ returns c =
     (simp (sym (same .ensures) ∙ if1) (read-control-in .ensures), simp (sym (same .ensures) ∙ if1))
 
 slice-aggregate-same-2 : tie.Need-slice-aggregate-same-2
-slice-aggregate-same-2 c = search needs
+slice-aggregate-same-2 c = refl
 
 same-requires-2 : tie.Need-same-requires-2
-same-requires-2 c κs = search needs
+same-requires-2 c κs = tt
 
 read-control-out-requires : tie.Need-read-control-out-requires
-read-control-out-requires c κs = search needs
+read-control-out-requires c κs = tt
 
 returns-2 : tie.Need-returns-2
 unfolding beginOf
@@ -43,13 +42,13 @@ returns-2 c =
     (simp (sym (same .ensures) ∙ if1, sym (same2 .ensures) ∙ if2) (read-control-out .ensures .0), simp (sym (same .ensures) ∙ if1, sym (same2 .ensures) ∙ if2) (read-control-out .ensures .1))
 
 slice-aggregate-same-3 : tie.Need-slice-aggregate-same-3
-slice-aggregate-same-3 c = search needs
+slice-aggregate-same-3 c = refl
 
 same-requires-3 : tie.Need-same-requires-3
-same-requires-3 c κs = search needs
+same-requires-3 c κs = tt
 
 read-control-none-requires : tie.Need-read-control-none-requires
-read-control-none-requires c κs = search needs
+read-control-none-requires c κs = tt
 
 returns-3 : tie.Need-returns-3
 unfolding beginOf
@@ -64,13 +63,13 @@ returns-3 c =
     (simp (sym (same .ensures) ∙ if1, sym (same2 .ensures) ∙ if2, sym (same3 .ensures) ∙ if3) (read-control-none .ensures), simp (sym (same .ensures) ∙ if1, sym (same2 .ensures) ∙ if2, sym (same3 .ensures) ∙ if3))
 
 slice-aggregate-same-4 : tie.Need-slice-aggregate-same-4
-slice-aggregate-same-4 c = search needs
+slice-aggregate-same-4 c = refl
 
 same-requires-4 : tie.Need-same-requires-4
-same-requires-4 c κs = search needs
+same-requires-4 c κs = tt
 
 read-bulk-in-requires : tie.Need-read-bulk-in-requires
-read-bulk-in-requires c κs = search needs
+read-bulk-in-requires c κs = tt
 
 returns-4 : tie.Need-returns-4
 unfolding beginOf
@@ -87,13 +86,13 @@ returns-4 c =
     (simp (sym (same .ensures) ∙ if1, sym (same2 .ensures) ∙ if2, sym (same3 .ensures) ∙ if3, sym (same4 .ensures) ∙ if4) (read-bulk-in .ensures), simp (sym (same .ensures) ∙ if1, sym (same2 .ensures) ∙ if2, sym (same3 .ensures) ∙ if3, sym (same4 .ensures) ∙ if4))
 
 slice-aggregate-same-5 : tie.Need-slice-aggregate-same-5
-slice-aggregate-same-5 c = search needs
+slice-aggregate-same-5 c = refl
 
 same-requires-5 : tie.Need-same-requires-5
-same-requires-5 c κs = search needs
+same-requires-5 c κs = tt
 
 read-bulk-out-requires : tie.Need-read-bulk-out-requires
-read-bulk-out-requires c κs = search needs
+read-bulk-out-requires c κs = tt
 
 returns-5 : tie.Need-returns-5
 unfolding beginOf
@@ -112,7 +111,7 @@ returns-5 c =
     (simp (sym (same .ensures) ∙ if1, sym (same2 .ensures) ∙ if2, sym (same3 .ensures) ∙ if3, sym (same4 .ensures) ∙ if4, sym (same5 .ensures) ∙ if5) (read-bulk-out .ensures .0), simp (sym (same .ensures) ∙ if1, sym (same2 .ensures) ∙ if2, sym (same3 .ensures) ∙ if3, sym (same4 .ensures) ∙ if4, sym (same5 .ensures) ∙ if5) (read-bulk-out .ensures .1))
 
 read-alone-requires : tie.Need-read-alone-requires
-read-alone-requires c κs = search needs
+read-alone-requires c κs = tt
 
 returns-6 : tie.Need-returns-6
 unfolding beginOf

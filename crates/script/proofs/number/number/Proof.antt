@@ -1,9 +1,8 @@
 -- `number` is `numberOf`: the digits after `0x`, or all of them.
 -- Assumes nothing.
-use mathlib.Core.Path.{_≡_, sym, ap, _∙_}
-use Prim.Native.Nat.{ℕ, _-_, _≤_}
-use mathlib.Core.List.{List}
-use lib.ListN.{length, take, drop, length-drop}
+use mathlib.Core.Path.{sym, ap, _∙_}
+use Prim.Native.Nat.{_-_}
+use lib.ListN.{length, drop, length-drop}
 use lib.Seq.{take-all}
 use Rattle.script.specs.Numbers.{valueOf, numberOf}
 use Rattle.script.proofs.Spelling.{hex-two}
@@ -14,7 +13,7 @@ use Rattle.script.proofs.number.number.Statement.{statement}
 use Rattle.script.proofs.number.number.Tie as tie
 
 is-hex-requires : tie.Need-is-hex-requires
-is-hex-requires c κs = search needs
+is-hex-requires c κs = tt
 
 sub-value : tie.Need-sub-value
 sub-value c =

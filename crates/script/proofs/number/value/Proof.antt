@@ -1,11 +1,10 @@
 -- `value` is `valueOf`. The invariant: the digits passed spell n, and n is at most `most`.
 -- The measure is what is left of the digits. Assumes nothing.
-use mathlib.Core.Path.{_≡_, sym, ap, _∙_}
-use Prim.Native.Nat.{ℕ, _+_, _*_, _-_, _≤_}
+use mathlib.Core.Path.{sym}
+use Prim.Native.Nat.{_-_}
 use native.Mathlib.Nat.{mul-le-mul-left}
-use lib.ListN.{length, getD}
+use lib.ListN.{length}
 use Rattle.script.proofs.Spelling.{Spelt, spelt-none, spelt-more, value-none, value-bad, value-large, value-whole}
-use borrow.Author.Needs.{needs}
 use native.Mathlib.Omega.{arith}
 use denote.Ref.{now}
 use Rattle.script.proofs.number.value.Statement.{statement}
@@ -32,7 +31,7 @@ shared-slice-read-digit : tie.Need-shared-slice-read-digit Inv-loop μ-loop
 shared-slice-read-digit c = omega arith
 
 digit-requires : tie.Need-digit-requires Inv-loop μ-loop
-digit-requires c κs = search needs
+digit-requires c κs = tt
 
 returns-2 : tie.Need-returns-2 Inv-loop μ-loop
 returns-2 c =

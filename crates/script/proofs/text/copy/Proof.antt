@@ -1,7 +1,7 @@
 -- `copy` stores the text. The invariant: the first i bytes are stored.
 -- The measure is how many are left. Assumes nothing.
 use mathlib.Core.Path.{_≡_, refl, ap, _∙_}
-use Prim.Native.Nat.{ℕ, _-_, _≤_}
+use Prim.Native.Nat.{_-_, _≤_}
 use lib.ListN.{length, take, length-set}
 use lib.Seq.{sets, take-all}
 use Rattle.pool.proofs.Stores.{copy-more}

@@ -1,6 +1,5 @@
 -- `put_byte` stores both digits.
 -- Assumes nothing.
-use mathlib.Core.Path.{_≡_, refl}
 use native.Mathlib.Numerals.{add-one}
 use lib.ListN.{length-set}
 use borrow.Author.Needs.{needs}

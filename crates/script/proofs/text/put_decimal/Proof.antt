@@ -1,6 +1,5 @@
 -- `put_decimal` puts the digits that io's `decimal` makes.
 -- Assumes nothing.
-use mathlib.Core.Path.{_≡_, refl, sym, _∙_}
 use borrow.Author.Needs.{needs}
 use Rattle.script.proofs.text.put_decimal.Statement.{statement}
 use Rattle.script.proofs.text.put_decimal.Tie as tie

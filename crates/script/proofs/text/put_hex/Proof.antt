@@ -1,6 +1,5 @@
 -- `put_hex` puts the mark and then the digits that io's `hex` makes.
 -- Assumes nothing.
-use mathlib.Core.Path.{_≡_, refl, sym, _∙_}
 use borrow.Author.Needs.{needs}
 use Rattle.script.proofs.text.put_hex.Statement.{statement}
 use Rattle.script.proofs.text.put_hex.Tie as tie

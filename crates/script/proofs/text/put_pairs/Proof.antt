@@ -1,6 +1,6 @@
 -- `put_pairs` puts two digits a byte where they fit, and `-` for no byte.
 -- Assumes nothing.
-use mathlib.Core.Path.{_≡_, refl, sym, ap, _∙_}
+use mathlib.Core.Path.{refl, sym, ap, _∙_}
 use Prim.Native.Nat.{ℕ, _+_, _*_}
 use borrow.Author.Tests.{not-true, not-false, leb-true, lt-leb}
 use lib.ListN.{length}
@@ -14,10 +14,10 @@ use Rattle.script.proofs.text.put_pairs.Statement.{statement}
 use Rattle.script.proofs.text.put_pairs.Tie as tie
 
 slice-aggregate-put : tie.Need-slice-aggregate-put
-slice-aggregate-put c = search needs
+slice-aggregate-put c = refl
 
 put-requires : tie.Need-put-requires
-put-requires c κs = search needs
+put-requires c κs = tt
 
 same-length : tie.Need-same-length
 same-length c = search needs
@@ -41,7 +41,7 @@ mul-n c =
     omega (arith, good)
 
 has-room-requires : tie.Need-has-room-requires
-has-room-requires c κs = search needs
+has-room-requires c κs = tt
 
 same-length-2 : tie.Need-same-length-2
 same-length-2 c = search needs

@@ -1,6 +1,5 @@
 -- `bit_at` is `bitAt`: the field's number, which fits a bit.
 -- Assumes nothing.
-use mathlib.Core.Path.{_≡_, refl, sym, ap, ap₂, _∙_}
 use Rattle.script.proofs.Storing.{numbered}
 use Rattle.script.specs.Typed.{bitAt}
 use borrow.Author.Needs.{needs}
@@ -8,10 +7,10 @@ use Rattle.script.proofs.typed.bit_at.Statement.{statement}
 use Rattle.script.proofs.typed.bit_at.Tie as tie
 
 field-requires : tie.Need-field-requires
-field-requires c κs = search needs
+field-requires c κs = tt
 
 number-requires : tie.Need-number-requires
-number-requires c κs = search needs
+number-requires c κs = tt
 
 enum-known-f : tie.Need-enum-known-f
 enum-known-f c = search needs

@@ -1,6 +1,6 @@
 -- `byte_at` is `byteAt`: the field's number, which fits a byte.
 -- Assumes nothing.
-use mathlib.Core.Path.{_≡_, refl, sym, ap, ap₂, _∙_}
+use mathlib.Core.Path.{sym, _∙_}
 use Rattle.script.proofs.Spelling.{number-most}
 use Rattle.script.proofs.Storing.{numbered}
 use Rattle.script.specs.Typed.{byteAt}
@@ -11,10 +11,10 @@ use Rattle.script.proofs.typed.byte_at.Statement.{statement}
 use Rattle.script.proofs.typed.byte_at.Tie as tie
 
 field-requires : tie.Need-field-requires
-field-requires c κs = search needs
+field-requires c κs = tt
 
 number-requires : tie.Need-number-requires
-number-requires c κs = search needs
+number-requires c κs = tt
 
 enum-known-f : tie.Need-enum-known-f
 enum-known-f c = search needs

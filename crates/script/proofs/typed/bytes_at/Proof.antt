@@ -1,16 +1,14 @@
 -- `bytes_at` is the field's `bytesOf`.
 -- Assumes nothing.
-use mathlib.Core.Path.{_≡_, refl, sym, ap, ap₂, _∙_}
 use Rattle.script.specs.Typed.{countAt, storedAt}
-use borrow.Author.Needs.{needs}
 use Rattle.script.proofs.typed.bytes_at.Statement.{statement}
 use Rattle.script.proofs.typed.bytes_at.Tie as tie
 
 field-requires : tie.Need-field-requires
-field-requires c κs = search needs
+field-requires c κs = tt
 
 bytes-requires : tie.Need-bytes-requires
-bytes-requires c κs = search needs
+bytes-requires c κs = tt
 
 returns : tie.Need-returns
 unfolding countAt storedAt

@@ -1,6 +1,5 @@
 -- `half_pair` is `halfPair`: the low byte, and 256 times the high one.
 -- Assumes nothing.
-use mathlib.Core.Path.{_≡_, refl, sym, ap, ap₂, _∙_}
 use Rattle.script.specs.Typed.{halfPair}
 use borrow.Author.Needs.{needs}
 use Rattle.script.proofs.typed.half_pair.Statement.{statement}

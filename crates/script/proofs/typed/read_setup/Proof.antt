@@ -1,9 +1,8 @@
 -- `read_setup` is `setupIn`: 16 digits, or nothing.
 -- Assumes nothing.
-use mathlib.Core.Path.{_≡_, refl, sym, ap, ap₂, _∙_}
+use mathlib.Core.Path.{sym, _∙_}
 use borrow.Author.Tests.{eq-eqb, ne-eqb, not-true, not-false}
 use Rattle.script.specs.Typed.{setupIn}
-use borrow.Author.Needs.{needs}
 use Rattle.script.proofs.typed.read_setup.Statement.{statement}
 use Rattle.script.proofs.typed.read_setup.Tie as tie
 
@@ -14,7 +13,7 @@ returns c =
     simp (ne-eqb _ _ if1)
 
 all-hex-requires : tie.Need-all-hex-requires
-all-hex-requires c κs = search needs
+all-hex-requires c κs = tt
 
 returns-2 : tie.Need-returns-2
 unfolding setupIn

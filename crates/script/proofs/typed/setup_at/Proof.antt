@@ -1,16 +1,14 @@
 -- `setup_at` is the field's `setupIn`.
 -- Assumes nothing.
-use mathlib.Core.Path.{_≡_, refl, sym, ap, ap₂, _∙_}
 use Rattle.script.specs.Typed.{setupAt}
-use borrow.Author.Needs.{needs}
 use Rattle.script.proofs.typed.setup_at.Statement.{statement}
 use Rattle.script.proofs.typed.setup_at.Tie as tie
 
 field-requires : tie.Need-field-requires
-field-requires c κs = search needs
+field-requires c κs = tt
 
 read-setup-requires : tie.Need-read-setup-requires
-read-setup-requires c κs = search needs
+read-setup-requires c κs = tt
 
 returns : tie.Need-returns
 unfolding setupAt

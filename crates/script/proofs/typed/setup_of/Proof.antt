@@ -1,6 +1,5 @@
 -- `setup_of` is `setupOf`, field by field.
 -- Assumes nothing.
-use mathlib.Core.Path.{_≡_, refl, sym, ap, ap₂, _∙_}
 use Rattle.script.specs.Typed.{setupOf}
 use borrow.Author.Needs.{needs}
 use Rattle.script.proofs.typed.setup_of.Statement.{statement}

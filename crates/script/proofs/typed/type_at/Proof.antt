@@ -1,20 +1,19 @@
 -- `type_at` is the field's `typeIn`, word by word.
 -- Assumes nothing.
-use mathlib.Core.Path.{_≡_, refl, sym, ap, ap₂, _∙_}
+use mathlib.Core.Path.{refl}
 use Rattle.script.specs.Typed.{typeIn, typeAt}
 use Rattle.script.proofs.Storing.{samed}
-use borrow.Author.Needs.{needs}
 use Rattle.script.proofs.typed.type_at.Statement.{statement}
 use Rattle.script.proofs.typed.type_at.Tie as tie
 
 field-requires : tie.Need-field-requires
-field-requires c κs = search needs
+field-requires c κs = tt
 
 slice-aggregate-same : tie.Need-slice-aggregate-same
-slice-aggregate-same c = search needs
+slice-aggregate-same c = refl
 
 same-requires : tie.Need-same-requires
-same-requires c κs = search needs
+same-requires c κs = tt
 
 returns : tie.Need-returns
 unfolding typeAt typeIn
@@ -25,13 +24,13 @@ returns c =
     simp (samed _ (same .ensures) (field .ensures) if1)
 
 field-requires-2 : tie.Need-field-requires-2
-field-requires-2 c κs = search needs
+field-requires-2 c κs = tt
 
 slice-aggregate-same-2 : tie.Need-slice-aggregate-same-2
-slice-aggregate-same-2 c = search needs
+slice-aggregate-same-2 c = refl
 
 same-requires-2 : tie.Need-same-requires-2
-same-requires-2 c κs = search needs
+same-requires-2 c κs = tt
 
 returns-2 : tie.Need-returns-2
 unfolding typeAt typeIn
