@@ -18,7 +18,7 @@ use ghost.Atoms.{Atoms, sem}
 use contract.Lifetimes.{Lfts}
 use contract.Monad.{Fun, fact}
 use contract.Running.{givenOf, tables, tablesOf}
-use types.Kit.{Given, ‵, raw, _⊛_, given, ⋆, some, later, _$_, _∵_, !, qed, by, move, keep, drop, use1, use2, split, join, learn, pick, fsplit, fjoin, feqL, suffices, frame, await, done}
+use types.Kit.{Given, ‵, raw, _⊛_, given, ⋆, some, later, _$_, _∵_, !, qed, by, move, keep, drop, use1, use2, split, learn, pick, fsplit, fjoin, feqL, suffices, frame, await, done}
 use types.Part.{agg, whole, sub, look-in}
 use types.Run.{look, init, forget, stop, hop, fld, from, load, addr, of-opd, and-then, no-more, assigns, land, returns, enter, alloc1, alloc0, params1, pass1, pass0, free1, free0}
 use sound.WpLaws.{FmC, fmOf, WpFn-mono}
@@ -28,7 +28,7 @@ use denote.Plain.{uint-makes, uint-vals, uint-tells}
 use denote.Builtin.{u8, u32, usize}
 use denote.Ref.{RefT}
 use denote.Signature.{plain, namedLft}
-use denote.Slice.{sliceVal, MutSlice, ShrSlice, Room, finally, slice-vals, mut-slice-tells, mut-slice-lawful}
+use denote.Slice.{sliceVal, MutSlice, ShrSlice, finally, slice-vals, mut-slice-tells, mut-slice-lawful}
 use denote.Steps.{owned, peeks, heard, nothing}
 use denote.Struct.Declared.{Declared}
 use denote.Struct.Laws as LL
@@ -45,7 +45,6 @@ use denote.Triple.Clauses.{ensured, lasts}
 use Rattle.transfers.specs.Arming.{outArm}
 use Rattle.transfers.specs.Arms.{ArmsOut}
 use Rattle.transfers.specs.declared.arming.OutArmed.{OutArmed}
-use Rattle.cutting.specs.declared.packetiser.OutCounters.{OutCounters}
 use Rattle.cutting.specs.declared.packetiser.OutPacketiser.{OutPacketiser}
 use Rattle.cutting.proofs.packetiser.OutCounters as K
 use Rattle.cutting.proofs.packetiser.OutCounters.Laws as K′

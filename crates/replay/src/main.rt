@@ -1,0 +1,51 @@
+// Plays a replay script on the driver and prints what each call answers, writes, arms and changes.
+mod armed;
+mod begin;
+mod effects;
+mod pipes;
+mod play;
+mod print;
+mod read;
+mod runs;
+mod state;
+mod step;
+mod within;
+
+use crate::play::play;
+use crate::print::flush_rest;
+use crate::read::start;
+use crate::read::turn;
+use crate::state::fresh_state;
+
+// A proved loop has to end, and nothing says that the input does: it counts down from a number that no run uses up.
+fn main() {
+    let mut chunk = [0u8; 65536];
+    let mut line = [0u8; 300000];
+    let mut pm = [0u8; 4096];
+    let mut buf = [0u8; 131072];
+    let mut own = [0u8; 131072];
+    let mut bytes = [0u8; 131072];
+    let mut record = [0u8; 131072];
+    let mut out = [0u8; 600000];
+    let mut s = fresh_state(&mut pm, &mut record);
+    let mut place = start();
+    let mut turns = u64::MAX;
+    while turns > 0 && !place.ended {
+        place = turn(place, &mut chunk, &mut line);
+        if place.whole {
+            s = play(
+                s,
+                place,
+                &line,
+                &mut pm,
+                &mut buf,
+                &mut own,
+                &mut bytes,
+                &mut record,
+                &mut out,
+            );
+        }
+        turns -= 1;
+    }
+    flush_rest(&out, s.at);
+}

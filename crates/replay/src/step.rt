@@ -1,0 +1,170 @@
+// The steps and the cancel.
+use crate::effects::copy_of;
+use crate::effects::print_effects;
+use crate::print::answer;
+use crate::print::answer_number;
+use crate::print::block_end;
+use crate::print::end;
+use crate::print::item;
+use crate::print::number_of;
+use crate::print::refused;
+use crate::runs::print_runs;
+use crate::state::State;
+use crate::state::write_record;
+use crate::within::within;
+use crate::within::within_words;
+use script::command::Stepping;
+use script::text::put;
+use transfers::answers::CancelAnswer;
+use transfers::answers::StepAnswer;
+use transfers::control::Stepped;
+use transfers::refusal::number;
+use transfers::sample::Sample;
+
+// The toggle is a bulk's; a control has none.
+fn print_toggle(out: &mut [u8], at: usize, bulk: bool, toggle: bool) -> usize {
+    if bulk {
+        return item(out, at, number_of(toggle) as u64);
+    }
+    put(out, at, b" -")
+}
+
+fn print_done(out: &mut [u8], at: usize, count: usize, bulk: bool, toggle: bool) -> usize {
+    let at = put(out, at, b"answer done");
+    let at = item(out, at, count as u64);
+    let at = print_toggle(out, at, bulk, toggle);
+    end(out, at)
+}
+
+fn print_stepped(out: &mut [u8], at: usize, a: StepAnswer, bulk: bool, toggle: bool) -> usize {
+    match a {
+        StepAnswer::Waiting(again) => answer_number(out, at, b"waiting", number_of(again) as u64),
+        StepAnswer::Done(n) => print_done(out, at, n, bulk, toggle),
+        StepAnswer::Refused(r) => refused(out, at, number(r)),
+    }
+}
+
+fn report(
+    mut s: State,
+    p: Stepped,
+    old: &[u8; 4096],
+    pm: &[u8],
+    log: &[u32; 192],
+    record: &mut [u8],
+    out: &mut [u8],
+) -> State {
+    let next = p.next;
+    let a = p.answer;
+    let armed = p.armed;
+    s.driver = next;
+    let at = print_stepped(out, s.at, a, s.bulk, p.toggle);
+    s.at = print_effects(out, at, log, p.writes, armed, old, pm);
+    write_record(s, armed, pm, record)
+}
+
+fn sample_of(c: Stepping) -> Sample {
+    Sample {
+        status: c.status,
+        intr: c.intr,
+        buffers: c.buffers,
+    }
+}
+
+// The driver's steps, on what is lent.
+fn driver_step_in(
+    s: State,
+    c: Stepping,
+    n: usize,
+    buf: &mut [u8],
+    pm: &mut [u8],
+    log: &mut [u32],
+) -> Stepped {
+    let d = s.driver;
+    let k = within(n, buf);
+    let m = within(s.memory, pm);
+    let w = within_words(s.words, log);
+    d.step_in(sample_of(c), &mut buf[..k], &mut pm[..m], &mut log[..w])
+}
+
+fn driver_step_out(
+    s: State,
+    c: Stepping,
+    n: usize,
+    buf: &[u8],
+    pm: &mut [u8],
+    log: &mut [u32],
+) -> Stepped {
+    let d = s.driver;
+    let k = within(n, buf);
+    let m = within(s.memory, pm);
+    let w = within_words(s.words, log);
+    d.step_out(sample_of(c), &buf[..k], &mut pm[..m], &mut log[..w])
+}
+
+fn copy_start(n: usize, from: &[u8], to: &mut [u8]) {
+    let k = within(n, from);
+    put(to, 0, &from[..k]);
+}
+
+// The changes among the first n bytes.
+fn finish_in(mut s: State, n: usize, before: &[u8], buf: &[u8], out: &mut [u8]) -> State {
+    let a = within(n, before);
+    let b = within(n, buf);
+    let at = print_runs(out, s.at, b"buf", &before[..a], &buf[..b]);
+    s.at = block_end(out, at);
+    s
+}
+
+// A step that is lent the first n bytes of the buffer.
+pub fn step_in(
+    s: State,
+    c: Stepping,
+    n: usize,
+    pm: &mut [u8],
+    buf: &mut [u8],
+    before: &mut [u8],
+    record: &mut [u8],
+    out: &mut [u8],
+) -> State {
+    let mut log = [0xA5A5_A5A5u32; 192];
+    let old = copy_of(pm);
+    copy_start(n, buf, before);
+    let p = driver_step_in(s, c, n, buf, pm, &mut log);
+    let s = report(s, p, &old, pm, &log, record, out);
+    finish_in(s, n, before, buf, out)
+}
+
+pub fn step_out(
+    s: State,
+    c: Stepping,
+    n: usize,
+    pm: &mut [u8],
+    buf: &[u8],
+    record: &mut [u8],
+    out: &mut [u8],
+) -> State {
+    let mut log = [0xA5A5_A5A5u32; 192];
+    let old = copy_of(pm);
+    let p = driver_step_out(s, c, n, buf, pm, &mut log);
+    let mut s = report(s, p, &old, pm, &log, record, out);
+    s.at = block_end(out, s.at);
+    s
+}
+
+fn print_cancel(out: &mut [u8], at: usize, a: CancelAnswer) -> usize {
+    match a {
+        CancelAnswer::Cancelled => answer(out, at, b"cancelled"),
+        CancelAnswer::Refused(r) => refused(out, at, number(r)),
+    }
+}
+
+pub fn cancel(mut s: State, out: &mut [u8]) -> State {
+    let d = s.driver;
+    let c = d.cancel();
+    let next = c.next;
+    let a = c.answer;
+    s.driver = next;
+    let at = print_cancel(out, s.at, a);
+    s.at = block_end(out, at);
+    s
+}
