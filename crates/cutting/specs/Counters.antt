@@ -35,6 +35,7 @@ owedAfter r z = cond (eqb r 0) false z
 
 -- ---- OUT
 
+-- The counters of an OUT transfer at its start: slot 0, the first PID, all bytes left.
 abbrev pub outStart : TransferType → ℕ → Bool → ℕ → OutCounters
 outStart t p b n = record { slot = false; pid = b; remain = n; offset = 0; size = p; zlp = zlpOf t p n }
 
@@ -42,6 +43,7 @@ outStart t p b n = record { slot = false; pid = b; remain = n; offset = 0; size 
 abbrev pub outAfter : OutCounters → ℕ → OutCounters
 outAfter c n = record { slot = not (c .slot); pid = c .pid; remain = c .remain - n; offset = c .offset + n; size = c .size; zlp = owedAfter (c .remain) (c .zlp) }
 
+-- A packet goes into its slot, and the counters move on; with none they stay.
 abbrev pub outGives : Next → OutCounters → OutNext
 outGives End c = record { arm = None; rest = c }
 outGives (Packet n last) c = record { arm = Some (record { slot = c .slot; pid = pidOf (c .pid) (c .slot); last = last; length = n }); rest = outAfter c n }
@@ -52,9 +54,11 @@ outNext c = outGives (cond (ltb (0xFFFF - c .offset) (c .remain)) End (nextOf (c
 
 -- ---- IN
 
+-- The counters of an IN transfer at its start.
 abbrev pub inStart : TransferType → ℕ → Bool → ℕ → InPacketiser
 inStart t p b n = record { slot = false; pid = b; remain = n; size = p; zlp = zlpOf t p n }
 
+-- "IN arms every slot with length p."
 abbrev pub inGives : Next → InPacketiser → InNext
 inGives End c = record { arm = None; rest = c }
 inGives (Packet n last) c =
@@ -63,5 +67,6 @@ inGives (Packet n last) c =
       rest = record { slot = not (c .slot); pid = c .pid; remain = c .remain - n; size = c .size; zlp = owedAfter (c .remain) (c .zlp) };
     }
 
+-- The next slot of an IN transfer, and the counters after it.
 unfoldable pub inNext : InPacketiser → InNext
 inNext c = inGives (nextOf (c .remain) (c .size) (c .zlp)) c

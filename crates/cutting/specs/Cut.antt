@@ -29,6 +29,7 @@ unfoldable pub deal : List ℕ → List ℕ → List (List ℕ)
 deal [] l = []
 deal (n ∷ ns) l = take n l ∷ deal ns (drop n l)
 
+-- No packet comes after.
 abbrev pub none : {A : Type 0} → List A → Bool
 none [] = true
 none (x ∷ xs) = false

@@ -6,6 +6,7 @@ use Rattle.cutting.specs.declared.depacketiser.InDepacketiser.{InDepacke
 use Rattle.cutting.specs.declared.depacketiser.InRetired.{InRetired}
 use Rattle.cutting.specs.declared.depacketiser.OutDepacketiser.{OutDepacketiser}
 
+-- A depacketiser with room for n bytes.
 abbrev pub inBegin : ℕ → InDepacketiser
 inBegin n = record { parity = false; remain = n; offset = 0 }
 
@@ -13,6 +14,7 @@ inBegin n = record { parity = false; remain = n; offset = 0 }
 abbrev pub keptOf : ℕ → ℕ → ℕ → ℕ
 keptOf off r k = cond (ltb (0xFFFF - off) r) 0 (cond (ltb k r) k r)
 
+-- A packet is retired: what is kept of it, and the counters after it.
 unfoldable pub inRetire : InDepacketiser → ℕ → InRetired
 inRetire c k =
     record {
@@ -20,8 +22,10 @@ inRetire c k =
       rest = record { parity = not (c .parity); remain = c .remain - keptOf (c .offset) (c .remain) k; offset = c .offset + keptOf (c .offset) (c .remain) k };
     }
 
+-- Nothing is retired yet.
 abbrev pub outBegin : OutDepacketiser
 outBegin = record { parity = false }
 
+-- A sent packet is retired: the slots alternate.
 abbrev pub outRetire : OutDepacketiser → OutDepacketiser
 outRetire c = record { parity = not (c .parity) }

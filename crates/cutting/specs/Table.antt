@@ -12,13 +12,16 @@ pub data Row : Type 0 where
   plain : ℕ → Row
   star : ℕ → Row
 
+-- The star stands at the packet marked last.
 abbrev pub row : Bool → ℕ → Row
 row true n = star n
 row false n = plain n
 
+-- An OUT packet's row.
 abbrev pub outRow : Packet (List ℕ) → Row
 outRow (packet s b last l) = row last (length l)
 
+-- An IN slot's row.
 abbrev pub inRow : Packet ℕ → Row
 inRow (packet s b last n) = row last n
 

@@ -2,7 +2,7 @@
 -- Assumes nothing.
 use mathlib.Core.Path.{_≡_, refl, ap, sym, _∙_}
 use mathlib.Core.Bool.{Bool, true, false, cond, _&&_}
-use mathlib.Core.List.{List, [], _∷_, _++_, append-assoc}
+use mathlib.Core.List.{List, [], _∷_, _++_, append-assoc, append-nil}
 use Prim.Native.Nat.{ℕ, _+_, _≤_}
 use native.Mathlib.Omega.{arith}
 use lib.ListN.{length, take, drop, length-append, length-take, length-drop}
@@ -31,10 +31,6 @@ encode-append (e ∷ a) b = ap (λ (l : List ℕ). encode e ++ l) (encode-append
 pub encode-one : (e : Entry) → encodeAll (e ∷ []) ≡ encode e
 unfolding encodeAll
 encode-one e = append-nil (encode e)
-  where
-    append-nil : (l : List ℕ) → l ++ [] ≡ l
-    append-nil [] = refl
-    append-nil (x ∷ l) = ap (λ (m : List ℕ). x ∷ m) (append-nil l)
 
 -- The bytes of a slot, at most 64, are there.
 pub slot-length : (pm : List ℕ) (slot : Bool) (n : ℕ) → length pm ≡ 4096 → n ≤ 64 → length (take n (drop (slotAddress slot) pm)) ≡ n

@@ -28,6 +28,7 @@ groupLook (Setup a w) p = Ended p
 groupLook Bad p = Ended p
 groupLook End p = Ended p
 
+-- The same at a position of a record.
 unfoldable pub groupOf : List ℕ → Span → SpanTurn
 groupOf s p = groupLook (look (drop (p .at) s)) p
 
@@ -36,6 +37,7 @@ unfoldable pub groupFrom : ℕ → List ℕ → Span → Span
 groupFrom zero s p = p
 groupFrom (suc f) s p = elim (groupOf s p) as (λ _. Span) [ More q ↦ groupFrom f s q | Ended q ↦ q ]
 
+-- The packets from a position on, up to a marked one. A packet has at least one byte in the record, so as many packets as bytes are enough.
 unfoldable pub groupAt : List ℕ → ℕ → Span
 groupAt s at = groupFrom (suc (length s)) s (record { at = at; count = 0 })
 
@@ -46,9 +48,11 @@ sentLook (Setup a w) s at = record { at = at; count = 0 }
 sentLook Bad s at = record { at = at; count = 0 }
 sentLook End s at = record { at = at; count = 0 }
 
+-- The same at a position of a record.
 unfoldable pub sentAt : List ℕ → ℕ → Span
 sentAt s at = sentLook (look (drop at s)) s at
 
+-- An item, by the entry that it begins with.
 abbrev pub itemLook : Look → List ℕ → ℕ → ItemAnswer
 itemLook (Setup a w) s at = Control (record { address = a; setup = at + 2; count = sentAt s (at + 10) .count; next = record { at = sentAt s (at + 10) .at } })
 itemLook (Out x) s at = Bulk (record { address = x .address; endpoint = x .endpoint; pid = x .pid; count = groupAt s at .count; next = record { at = groupAt s at .at } })

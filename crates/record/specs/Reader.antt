@@ -53,6 +53,7 @@ finish (afterSetup a w) k = Transfers k
 finish (inBulk a e q p t) k = Refused Grammar
 finish (inControl a w q p t) k = Refused Grammar
 
+-- The automaton takes the entry, or no grammatical end is possible (20).
 abbrev pub goOn : OptionScan → ℕ → ℕ → Turn
 goOn none at k = Stop (Refused Grammar)
 goOn (some s) at k = Go (record { at = at; scan = s; count = k })
@@ -64,6 +65,7 @@ turnLook Bad p = Stop (Refused Field)
 turnLook (Setup a w) p = goOn (feedSetup (p .scan) a w) (p .at + 10) (p .count + 1)
 turnLook (Out x) p = goOn (feedOut (p .scan) (x .address) (x .endpoint) (x .pid) (x .last) (x .length)) (p .at + (6 + x .length)) (p .count + startsOut (p .scan) (x .endpoint))
 
+-- The same at a position of a record.
 unfoldable pub turnOf : List ℕ → Progress → Turn
 turnOf s p = turnLook (look (drop (p .at) s)) p
 

@@ -10,6 +10,7 @@ use Rattle.record.specs.declared.scan.Scan.the-variants.{Between as betw
 use Rattle.record.specs.declared.scan.OptionScan.{OptionScan}
 use Rattle.record.specs.declared.scan.OptionScan.the-variants.{Some as some, None as none}
 
+-- On where a test holds, else refused.
 abbrev pub guard : Bool → Scan → OptionScan
 guard true s = some s
 guard false s = none
@@ -48,10 +49,12 @@ feedOut (afterSetup a′ w) a e b last n = cond (eqb e 0) (controlStart a′ w a
 feedOut (inBulk a′ e′ q p t) a e b last n = bulkNext a′ e′ q p t a e b last n
 feedOut (inControl a′ w q p t) a e b last n = controlNext a′ w q p t a e b last n
 
+-- One entry.
 abbrev pub feed : Scan → Entry → OptionScan
 feed s (setup a lo hi) = feedSetup s a (lengthIn hi)
 feed s (out a e b last l) = feedOut s a e b last (length l)
 
+-- Entry after entry; what is refused stays refused.
 abbrev pub feedAll : OptionScan → List Entry → OptionScan
 feedAll s [] = s
 feedAll none (e ∷ r) = none
@@ -88,6 +91,7 @@ abbrev pub InRange : Entry → Type 0
 InRange (setup a lo hi) = (a ≤ 127) × FourBytes lo × FourBytes hi
 InRange (out a e b last l) = (a ≤ 127) × (e ≤ 15) × (length l ≤ 64) × Bytes l
 
+-- Those of a list.
 abbrev pub AllInRange : List Entry → Type 0
 AllInRange [] = Unit {0}
 AllInRange (e ∷ r) = InRange e × AllInRange r

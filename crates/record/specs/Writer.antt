@@ -24,10 +24,12 @@ abbrev pub setupInRange : OptionSetup → Bool
 setupInRange noSetup = true
 setupInRange (someSetup s) = leb (s .address) 127
 
+-- An OUT packet that was armed: address, endpoint and length.
 abbrev pub outInRange : OptionOut → Bool
 outInRange noOut = true
 outInRange (someOut x) = leb (x .address) 127 && (leb (x .endpoint) 15 && leb (x .arm .length) 64)
 
+-- All that was armed.
 unfoldable pub armedInRange : Armed → Bool
 armedInRange armed = setupInRange (armed .setup) && (outInRange (armed .first) && outInRange (armed .second))
 
@@ -55,6 +57,7 @@ appendIf true false room new l used = refusing Field l
 appendIf true true false new l used = refusing Room l
 appendIf true true true new l used = record { answer = Used (used + length new); bytes = sets l used new }
 
+-- A call of the writer, on any armed answer, packet memory, record and used length.
 unfoldable pub appendOf : Armed → List ℕ → List ℕ → ℕ → Append
 appendOf armed pm l used =
     appendIf (memoryFits pm) (armedInRange armed) (leb (used + length (appended armed pm used)) (length l)) (appended armed pm used) l used
@@ -64,13 +67,16 @@ abbrev pub setupSize : OptionSetup → ℕ
 setupSize noSetup = 0
 setupSize (someSetup s) = 10
 
+-- OUT: 6 bytes and its own.
 abbrev pub outSize : OptionOut → ℕ
 outSize noOut = 0
 outSize (someOut x) = 6 + x .arm .length
 
+-- All that was armed.
 abbrev pub armedSize : Armed → ℕ
 armedSize armed = setupSize (armed .setup) + outSize (armed .first) + outSize (armed .second)
 
+-- The head's length, where it is written.
 abbrev pub headSize : ℕ → ℕ
 headSize used = cond (eqb used 0) 5 0
 

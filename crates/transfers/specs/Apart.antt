@@ -19,6 +19,7 @@ pub record Elsewhere (r : ℕ) : Type 0 where
   pub low : r ≡ setupLow → ⊥
   pub high : r ≡ setupHigh → ⊥
 
+-- No write touches these registers.
 abbrev pub Apart : List Write → Type 0
 Apart = Every (λ r m v. Elsewhere r)
 

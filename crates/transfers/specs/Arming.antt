@@ -21,6 +21,7 @@ mayArm w k s = ltb k 2 && not (available w s)
 
 -- ---- IN
 
+-- What arming an IN slot leaves: the counters, how many are in flight, and the writes.
 pub record InArming : Type 0 where
   pub packets : InPacketiser
   pub inflight : ℕ
@@ -31,10 +32,12 @@ abbrev pub inArmed : OptionArm → InPacketiser → ℕ → InArming
 inArmed None c k = record { packets = c; inflight = k; writes = [] }
 inArmed (Some a) c k = record { packets = c; inflight = k + 1; writes = armWrites false a }
 
+-- Only a slot that may be armed is.
 abbrev pub inArmIf : Bool → InPacketiser → ℕ → InArming
 inArmIf false c k = record { packets = c; inflight = k; writes = [] }
 inArmIf true c k = inArmed (inNext c .arm) (inNext c .rest) k
 
+-- One slot, by the word of EP_BUFFER_CONTROL.
 unfoldable pub inArm : ℕ → InPacketiser → ℕ → InArming
 inArm w c k = inArmIf (mayArm w k (c .slot)) c k
 
@@ -47,6 +50,7 @@ inArmTwo w c k =
 
 -- ---- OUT
 
+-- What arming an OUT slot leaves: the same, packet memory, and the packet.
 pub record OutArming : Type 0 where
   pub packets : OutCounters
   pub inflight : ℕ
@@ -54,6 +58,7 @@ pub record OutArming : Type 0 where
   pub memory : List ℕ
   pub arm : OptionArm
 
+-- Nothing is armed, and all stays.
 abbrev pub outKept : OutCounters → ℕ → List ℕ → OutArming
 outKept c k m = record { packets = c; inflight = k; writes = []; memory = m; arm = None }
 
@@ -63,13 +68,16 @@ outArmed None c k off buf m = outKept c k m
 outArmed (Some a) c k off buf m =
     record { packets = c; inflight = k + 1; writes = armWrites true a; memory = sets m (slotAddress (a .slot)) (take (a .length) (drop off buf)); arm = Some a }
 
+-- Only a slot that may be armed is.
 abbrev pub outArmIf : Bool → OutCounters → ℕ → List ℕ → List ℕ → OutArming
 outArmIf false c k buf m = outKept c k m
 outArmIf true c k buf m = outArmed (outNext c .arm) (outNext c .rest) k (c .offset) buf m
 
+-- One slot, by the word of EP_BUFFER_CONTROL.
 unfoldable pub outArm : ℕ → OutCounters → ℕ → List ℕ → List ℕ → OutArming
 outArm w c k buf m = outArmIf (mayArm w k (c .slot)) c k buf m
 
+-- What arming up to two leaves.
 pub record OutArmings : Type 0 where
   pub packets : OutCounters
   pub inflight : ℕ
@@ -78,6 +86,7 @@ pub record OutArmings : Type 0 where
   pub first : OptionArm
   pub second : OptionArm
 
+-- "arm up to two"
 unfoldable pub outArmTwo : ℕ → OutCounters → ℕ → List ℕ → List ℕ → OutArmings
 outArmTwo w c k buf m =
     let g = outArm w c k buf m in

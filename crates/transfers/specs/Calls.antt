@@ -40,6 +40,7 @@ use Rattle.transfers.specs.Step.{acts}
 
 -- ---- step: `filling` is the call that lends a buffer to fill (`step_in`), else the one that lends bytes to send (`step_out`)
 
+-- The toggle that a transfer under way came with.
 abbrev pub heldToggle : Transfer → Bool
 heldToggle Idle = false
 heldToggle (Busy r) = toggleIn (r .request .kind)
@@ -54,31 +55,38 @@ stepIf false fits r s buf m = refuses (Busy r) State m buf
 stepIf true false r s buf m = refuses (Busy r) LentMemory m buf
 stepIf true true r s buf m = acts (r .request) (r .stage) s buf m
 
+-- "16 nothing under way that this call serves, or a state with .."
 abbrev pub mayStep : Bool → Run → Bool
 mayStep filling r = served filling (r .request .kind) (r .stage) && sound (r .request) (r .stage)
 
+-- "15 packet memory not 4,096 bytes, or log below 192 words", then 16.
 abbrev pub stepLent : Bool → Bool → Transfer → Sample → List ℕ → List ℕ → Outcome
 stepLent false filling t s buf m = refuses t LentMemory m buf
 stepLent true filling Idle s buf m = refuses Idle State m buf
 stepLent true filling (Busy r) s buf m = stepIf (mayStep filling r) (eqb (length buf) (r .request .length)) r s buf m
 
+-- A step, on any state and whatever is lent.
 unfoldable pub stepOf : Bool → Transfer → Sample → List ℕ → List ℕ → List ℕ → Outcome
 stepOf filling t s buf m log = stepLent (lentFits m log) filling t s buf m
 
 -- ---- cancel: "Dropping the future becomes a cancel that frees the control pipe and writes no register."
 
+-- What a cancel does: the next state, the answer and the toggle.
 pub record Cancelling : Type 0 where
   pub next : Transfer
   pub answer : CancelAnswer
   pub toggle : Bool
 
+-- 16 where no step serves the state, which then stays.
 abbrev pub cancelIf : Bool → Transfer → Bool → Cancelling
 cancelIf false t b = record { next = t; answer = refusedCancel State; toggle = b }
 cancelIf true t b = record { next = Idle; answer = Cancelled; toggle = b }
 
+-- One of the two steps serves it.
 abbrev pub eitherServes : Run → Bool
 eitherServes r = cond (mayStep true r) true (mayStep false r)
 
+-- A cancel, on any state.
 unfoldable pub cancelOf : Transfer → Cancelling
 cancelOf Idle = cancelIf false Idle false
 cancelOf (Busy r) = cancelIf (eitherServes r) (Busy r) (toggleIn (r .request .kind))
@@ -90,6 +98,7 @@ wellFormed (Busy r) = eitherServes r
 
 -- ---- begin
 
+-- What a begin does: the next state, the answer, what was armed, the writes, and packet memory.
 pub record Beginning : Type 0 where
   pub next : Transfer
   pub answer : BeginAnswer
@@ -97,6 +106,7 @@ pub record Beginning : Type 0 where
   pub writes : List Write
   pub memory : List ℕ
 
+-- "Every other number leaves state, packet memory, log, record and buffer untouched."
 abbrev pub refusesBegin : Transfer → Refusal → List ℕ → Beginning
 refusesBegin t e m = record { next = t; answer = refusedBegin e; armed = nothingArmed; writes = []; memory = m }
 
@@ -114,10 +124,12 @@ beginRefusal false idle r = Some LentMemory
 beginRefusal true false r = Some (Usb AllPipesInUse)
 beginRefusal true true r = r
 
+-- Refused, or begun.
 abbrev pub beginOr : OptionRefusal → Transfer → List ℕ → Beginning → Beginning
 beginOr (Some e) t m b = refusesBegin t e m
 beginOr None t m b = b
 
+-- No transfer is under way.
 abbrev pub isIdle : Transfer → Bool
 isIdle Idle = true
 isIdle (Busy r) = false
@@ -132,10 +144,12 @@ beginsControl a x p s ph n m = record {
   memory = m;
 }
 
+-- A control begin: it has no endpoint and no limit of its buffer (11, 14).
 unfoldable pub beginControlOf : Transfer → ℕ → TransferExtras → ℕ → SetupPacket → DataPhase → List ℕ → List ℕ → List ℕ → Beginning
 beginControlOf t a x p s ph buf m log =
     beginOr (beginRefusal (lentFits m log) (isIdle t) (fieldsRefusal (addressGood a) true (sizeGood p) true)) t m (beginsControl a x p s ph (length buf) m)
 
+-- What is kept of a bulk begin.
 abbrev pub bulkRequest : Direction → ℕ → ℕ → ℕ → Bool → ℕ → Request
 bulkRequest d a e p t n = record { address = a; size = p; kind = bulk (record { direction = d; endpoint = e; toggle = t }); length = n }
 
@@ -145,15 +159,18 @@ beginsBulkIn x k m =
     let s = startIn (targetOf x) k false (x .length) in
     record { next = Busy (record { request = x; stage = inStage (s .stage) }); answer = begun; armed = nothingArmed; writes = s .writes; memory = m }
 
+-- The same OUT: what was armed is answered.
 abbrev pub beginsBulkOut : Request → ℕ → TransferType → List ℕ → List ℕ → Beginning
 beginsBulkOut x e k buf m =
     let s = startOut (targetOf x) k false 0 (x .length) buf m in
     record { next = Busy (record { request = x; stage = outStage (s .stage) }); answer = begun; armed = outsArmed (x .address) e (s .first) (s .second); writes = s .writes; memory = s .memory }
 
+-- A bulk IN begin, on any state and whatever is lent.
 unfoldable pub beginBulkInOf : Transfer → ℕ → ℕ → ℕ → TransferType → Bool → List ℕ → List ℕ → List ℕ → Beginning
 beginBulkInOf t a e p k b buf m log =
     beginOr (beginRefusal (lentFits m log) (isIdle t) (fieldsRefusal (addressGood a) (endpointGood e) (sizeGood p) (leb (length buf) 0xFFFF))) t m (beginsBulkIn (bulkRequest In a e p b (length buf)) k m)
 
+-- A bulk OUT begin, on any state and whatever is lent.
 unfoldable pub beginBulkOutOf : Transfer → ℕ → ℕ → ℕ → TransferType → Bool → List ℕ → List ℕ → List ℕ → Beginning
 beginBulkOutOf t a e p k b buf m log =
     beginOr (beginRefusal (lentFits m log) (isIdle t) (fieldsRefusal (addressGood a) (endpointGood e) (sizeGood p) (leb (length buf) 0xFFFF))) t m (beginsBulkOut (bulkRequest Out a e p b (length buf)) e k buf m)

@@ -25,12 +25,14 @@ statusAt (suc (suc n)) = Present Full12
 abbrev pub statusOf : ℕ → DeviceStatus
 statusOf sie = statusAt (field 8 2 sie)
 
+-- Two speeds are the same.
 abbrev pub sameSpeed : UsbSpeed → UsbSpeed → Bool
 sameSpeed «Low1_5» «Low1_5» = true
 sameSpeed «Low1_5» Full12 = false
 sameSpeed Full12 «Low1_5» = false
 sameSpeed Full12 Full12 = true
 
+-- Two statuses are the same.
 abbrev pub sameStatus : DeviceStatus → DeviceStatus → Bool
 sameStatus (Present a) (Present b) = sameSpeed a b
 sameStatus (Present a) Absent = false
@@ -43,14 +45,17 @@ pub record Detecting (S : Type 0) : Type 0 where
   pub answer : DetectAnswer
   pub writes : List Write
 
+-- "enables the connect interrupt either way"
 abbrev pub connect : List Write
 connect = wr inte 1 1 ∷ []
 
+-- "it answers a change from the last status or waiting"; 15 where the log is short.
 abbrev pub detectingIf : Bool → Bool → DeviceStatus → DeviceStatus → Detecting DeviceStatus
 detectingIf false same last now = record { next = last; answer = Refused LentMemory; writes = [] }
 detectingIf true true last now = record { next = last; answer = Waiting; writes = connect }
 detectingIf true false last now = record { next = now; answer = Changed now; writes = connect }
 
+-- Detection on a last status.
 unfoldable pub detectingStatus : DeviceStatus → ℕ → List ℕ → Detecting DeviceStatus
 detectingStatus last sie log = detectingIf (logFits log) (sameStatus (statusOf sie) last) last (statusOf sie)
 
@@ -58,6 +63,7 @@ detectingStatus last sie log = detectingIf (logFits log) (sameStatus (statusOf s
 abbrev pub withLast : Driver → Detecting DeviceStatus → Detecting Driver
 withLast d e = record { next = record { transfer = d .transfer; pipes = d .pipes; last = e .next }; answer = e .answer; writes = e .writes }
 
+-- Detection, on any driver.
 abbrev pub detecting : Driver → ℕ → List ℕ → Detecting Driver
 detecting d sie log = withLast d (detectingStatus (d .last) sie log)
 

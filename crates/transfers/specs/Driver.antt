@@ -35,5 +35,6 @@ pub record DidStep (d : Driver) (o : Outcome) (l : List ℕ) (r : Stepped) (m′
   pub memory : m′ ≡ o .memory
   pub log : l′ ≡ logged l 0 (o .writes)
 
+-- What the driver's cancel hands back.
 abbrev pub dropped : Driver → Cancelling → Dropped
 dropped d o = record { next = withTransfer d (o .next); answer = o .answer; toggle = o .toggle }

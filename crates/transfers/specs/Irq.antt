@@ -40,6 +40,7 @@ pub record Waking : Type 0 where
   pub answer : IrqAnswer
   pub writes : List Write
 
+-- 15 where the log is short; else whom to wake, and every interrupt that was raised is disabled.
 abbrev pub wakingIf : Bool → ℕ → ℕ → Waking
 wakingIf false ints status = record { answer = Refused LentMemory; writes = [] }
 wakingIf true ints status = record {
@@ -47,6 +48,7 @@ wakingIf true ints status = record {
   writes = clearWrites (bit 4 ints) ++ (wr inte ints 0 ∷ []);
 }
 
+-- The interrupt routine, on any words.
 unfoldable pub waking : ℕ → ℕ → List ℕ → Waking
 waking ints status log = wakingIf (logFits log) ints status
 

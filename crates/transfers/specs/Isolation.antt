@@ -15,6 +15,7 @@ use Rattle.transfers.specs.declared.driver.Pipe.{Pipe}
 use Rattle.transfers.specs.declared.pipes.PipeSample.{PipeSample}
 use Rattle.transfers.specs.Pipes.{noPipe, pipeArea, indexOpen, Polling, polling}
 
+-- There is an index.
 abbrev pub isSome : OptionIndex → Bool
 isSome (SomeIndex at) = true
 isSome NoIndex = false
@@ -50,6 +51,7 @@ pub record SamePoll (n : PipeNumber) (e e′ : Polling Driver) : Type 0 where
   pub writes : e .writes ≡ e′ .writes
   pub next : SamePipe n (e .next .pipes) (e′ .next .pipes)
 
+-- "Two runs that agree on pipe n's being open, its packet size, sample, area, toggle and lent lengths answer a poll of n alike"
 abbrev pub Isolated : Type 0
 Isolated =
     (n : PipeNumber) (s : PipeSample) (d d′ : Driver) (pm pm′ log log′ : List ℕ) → Whole d → Whole d′

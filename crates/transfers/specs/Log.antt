@@ -13,6 +13,7 @@ pub data Write : Type 0 where
 abbrev pub delay : Write
 delay = wr 0 0 12
 
+-- "three a write from word 0 on: register number, mask, value"
 abbrev pub words : List Write → List ℕ
 words [] = []
 words (wr r m v ∷ ws) = r ∷ m ∷ v ∷ words ws

@@ -20,5 +20,6 @@ waitingMask = 0x448
 abbrev pub endingMask : ℕ
 endingMask = 0x7E8
 
+-- BUFF_STATUS, as an interrupt.
 abbrev pub buffStatusMask : ℕ
 buffStatusMask = 0x10

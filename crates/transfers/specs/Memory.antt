@@ -10,9 +10,11 @@ use lib.Dec.{eqb, leb}
 abbrev pub memoryFits : List ℕ → Bool
 memoryFits pm = eqb (length pm) 4096
 
+-- "15 .. log below 192 words"
 abbrev pub logFits : List ℕ → Bool
 logFits log = leb 192 (length log)
 
+-- Both.
 abbrev pub lentFits : List ℕ → List ℕ → Bool
 lentFits pm log = memoryFits pm && logFits log
 

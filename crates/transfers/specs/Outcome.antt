@@ -28,6 +28,7 @@ use Rattle.transfers.specs.Writes.{headWrites, enableWrites, goWrites}
 use Rattle.transfers.specs.Arming.{inArmTwo, outArmTwo}
 use Rattle.transfers.specs.State.{endpointOf, targetOf}
 
+-- What a step does: the next state, the answer, the toggle, what was armed, the writes, packet memory and buffer.
 pub record Outcome : Type 0 where
   pub next : Transfer
   pub answer : StepAnswer
@@ -51,6 +52,7 @@ abbrev pub flipped : Bool → Bool → Bool
 flipped t false = t
 flipped t true = not t
 
+-- The toggle that goes out with done.
 abbrev pub toggleOut : Kind → Bool → Bool
 toggleOut (control c) parity = false
 toggleOut (bulk b) parity = flipped (b .toggle) parity
@@ -59,6 +61,7 @@ toggleOut (bulk b) parity = flipped (b .toggle) parity
 abbrev pub ended : StepAnswer → Bool → List ℕ → List ℕ → Outcome
 ended a t m buf = record { next = Idle; answer = a; toggle = t; armed = nothingArmed; writes = []; memory = m; buffer = buf }
 
+-- The transfer ends with an error's number (1 to 7 and 9), and the toggle that came in.
 abbrev pub failed : Request → UsbError → List ℕ → List ℕ → Outcome
 failed x e m buf = ended (Refused (Usb e)) (toggleIn (x .kind)) m buf
 
@@ -69,10 +72,12 @@ waits x st again a ws m buf =
 
 -- ---- a stage of n bytes begins: its first packets are armed and the transaction is started (rp2040.rs, `control_transfer_inner`)
 
+-- An IN stage at its start, and the writes.
 pub record InStarted : Type 0 where
   pub stage : InStage
   pub writes : List Write
 
+-- An IN stage of n bytes begins.
 unfoldable pub startIn : Target → TransferType → Bool → ℕ → InStarted
 startIn t k status n =
     let g = inArmTwo 0 (inStart k (t .size) (t .pid) n) 0 in
@@ -81,6 +86,7 @@ startIn t k status n =
       writes = headWrites t n ++ (g .writes ++ (enableWrites (t .size) n ++ goWrites In));
     }
 
+-- An OUT stage at its start, the writes, packet memory, and what was armed.
 pub record OutStarted : Type 0 where
   pub stage : OutStage
   pub writes : List Write
@@ -88,6 +94,7 @@ pub record OutStarted : Type 0 where
   pub first : OptionArm
   pub second : OptionArm
 
+-- An OUT stage of n bytes begins.
 unfoldable pub startOut : Target → TransferType → Bool → ℕ → ℕ → List ℕ → List ℕ → OutStarted
 startOut t k status received n buf m =
     let g = outArmTwo 0 (outStart k (t .size) (t .pid) n) 0 buf m in

@@ -40,6 +40,7 @@ use Rattle.transfers.specs.Registers.{field, bit, weigh, ones, addrEndpO
 abbrev pub noPipe : Pipe
 noPipe = record { size = 0; toggle = false }
 
+-- "no pipe open"
 abbrev pub freshPipes : Pipes
 freshPipes = record { pool = newPool pipes; each = replicate pipes noPipe }
 
@@ -53,9 +54,11 @@ armPipe n toggle size = wr (epBufferOf n) ones (0x4000 + weigh toggle 0x2000 + s
 
 -- ---- open
 
+-- "poll interval min(interval, 9)"
 abbrev pub pollInterval : ℕ → ℕ
 pollInterval i = min i 9
 
+-- HOST_ADDR_ENDP, EP_CONTROL and EP_BUFFER_CONTROL of the pipe that is opened.
 abbrev pub openWrites : ℕ → ℕ → TransferExtras → ℕ → ℕ → ℕ → List Write
 openWrites n address extras endpoint size interval =
     wr (addrEndpOf n) ones (address + endpoint * 0x1_0000 + weigh (preamble extras) 0x400_0000)
@@ -68,6 +71,7 @@ pub record Opening (S : Type 0) : Type 0 where
   pub answer : OpenAnswer
   pub writes : List Write
 
+-- A refused open leaves all as it was.
 abbrev pub refuseOpen : Pipes → Refusal → Opening Pipes
 refuseOpen ps why = record { next = ps; answer = OpenRefused why; writes = [] }
 
@@ -80,10 +84,12 @@ openNumber (SomePipe n) at pool ps address extras endpoint size interval = recor
   writes = openWrites (n .0) address extras endpoint size interval;
 }
 
+-- "10 all 15 open"
 abbrev pub openIndex : OptionIndex → Pool → Pipes → ℕ → TransferExtras → ℕ → ℕ → ℕ → Opening Pipes
 openIndex NoIndex pool ps address extras endpoint size interval = refuseOpen ps (Usb TooManyDevices)
 openIndex (SomeIndex at) pool ps address extras endpoint size interval = openNumber (pipeOf at) at pool ps address extras endpoint size interval
 
+-- The lowest free index is opened.
 unfoldable pub openFree : Pipes → ℕ → TransferExtras → ℕ → ℕ → ℕ → Opening Pipes
 openFree ps address extras endpoint size interval =
     openIndex (allocOf (ps .pool) .index) (allocOf (ps .pool) .pool) ps address extras endpoint size interval
@@ -96,6 +102,7 @@ openIf true true false s ps address extras endpoint size interval = refuseOpen p
 openIf true true true false ps address extras endpoint size interval = refuseOpen ps PacketSize
 openIf true true true true ps address extras endpoint size interval = openFree ps address extras endpoint size interval
 
+-- An open, on any pipes.
 unfoldable pub openingPipe : Pipes → ℕ → TransferExtras → ℕ → ℕ → ℕ → List ℕ → Opening Pipes
 openingPipe ps address extras endpoint size interval log =
     openIf (logFits log) (addressGood address) (endpointGood endpoint) (sizeGood size) ps address extras endpoint size interval
@@ -104,9 +111,11 @@ openingPipe ps address extras endpoint size interval log =
 abbrev pub withPipes : Driver → Pipes → Driver
 withPipes d ps = record { transfer = d .transfer; pipes = ps; last = d .last }
 
+-- The same for the driver.
 abbrev pub opened : Driver → Opening Pipes → Opening Driver
 opened d e = record { next = withPipes d (e .next); answer = e .answer; writes = e .writes }
 
+-- An open, on any driver.
 abbrev pub opening : Driver → ℕ → TransferExtras → ℕ → ℕ → ℕ → List ℕ → Opening Driver
 opening d address extras endpoint size interval log = opened d (openingPipe (d .pipes) address extras endpoint size interval log)
 
@@ -134,9 +143,11 @@ abbrev pub closeIndex : OptionIndex → Pipes → PipesClosed
 closeIndex NoIndex ps = record { next = ps; answer = CloseRefused PipeNotOpen }
 closeIndex (SomeIndex at) ps = record { next = record { pool = freeOf (ps .pool) at .pool; each = ps .each }; answer = Closed }
 
+-- A close, on any pipes.
 unfoldable pub closingPipe : Pipes → PipeNumber → PipesClosed
 closingPipe ps n = closeIndex (indexOpen (ps .pool) n) ps
 
+-- A close, on any driver.
 abbrev pub closing : Driver → PipeNumber → CloseResult
 closing d n = record { next = withPipes d (closingPipe (d .pipes) n .next); answer = closingPipe (d .pipes) n .answer }
 
@@ -154,9 +165,11 @@ packetData pm n k = take k (drop (pipeArea n) pm) ++ replicate (64 - k) 0
 abbrev pub packetWith : PipeSample → List ℕ → InterruptPacket
 packetWith s bytes = record { address = field 0 7 (s .address); endpoint = field 16 4 (s .address); size = packetSize (s .buffer); «data» = bytes }
 
+-- The packet of pipe n, from its area of packet memory.
 abbrev pub packetOf : ℕ → PipeSample → List ℕ → InterruptPacket
 packetOf n s pm = packetWith s (packetData pm n (packetSize (s .buffer)))
 
+-- No packet: all zeros.
 abbrev pub noPacket : InterruptPacket
 noPacket = record { address = 0; endpoint = 0; size = 0; «data» = replicate 64 0 }
 
@@ -171,6 +184,7 @@ pub record Polling (S : Type 0) : Type 0 where
   pub packet : InterruptPacket
   pub writes : List Write
 
+-- A refused poll leaves all as it was.
 abbrev pub refusePoll : Pipes → Refusal → Polling Pipes
 refusePoll ps why = record { next = ps; answer = PollRefused why; packet = noPacket; writes = [] }
 
@@ -194,12 +208,15 @@ pollIf true NoIndex full ps n s pm = refusePoll ps PipeNotOpen
 pollIf true (SomeIndex at) false ps n s pm = record { next = ps; answer = Waiting; packet = noPacket; writes = waitWrites (n .0) }
 pollIf true (SomeIndex at) true ps n s pm = pollFull at ps n s pm
 
+-- A poll, on any pipes.
 unfoldable pub pollingPipe : Pipes → PipeNumber → PipeSample → List ℕ → List ℕ → Polling Pipes
 pollingPipe ps n s pm log = pollIf (lentFits pm log) (indexOpen (ps .pool) n) (bit 15 (s .buffer)) ps n s pm
 
+-- The same for the driver.
 abbrev pub polled : Driver → Polling Pipes → Polling Driver
 polled d e = record { next = withPipes d (e .next); answer = e .answer; packet = e .packet; writes = e .writes }
 
+-- A poll, on any driver.
 abbrev pub polling : Driver → PipeNumber → PipeSample → List ℕ → List ℕ → Polling Driver
 polling d n s pm log = polled d (pollingPipe (d .pipes) n s pm log)
 

@@ -60,6 +60,7 @@ module _ (address : ℕ) (extras : TransferExtras) (endpoint size interval : ℕ
 abbrev pub allOpen : Transfer → DeviceStatus → ℕ → TransferExtras → ℕ → ℕ → ℕ → List ℕ → Driver
 allOpen t last address extras endpoint size interval log = openTimes address extras endpoint size interval log 15 (record { transfer = t; pipes = freshPipes; last = last })
 
+-- The table, row by row.
 pub record ProvedTable : Type 0 where
   -- "0 at 64 either way: 0*."
   pub none : (t : TransferType) → Cuts t 0 (star 0 ∷ [])

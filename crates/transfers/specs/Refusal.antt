@@ -19,6 +19,7 @@ errorNumber ProtocolError = 9
 errorNumber TooManyDevices = 10
 errorNumber NoSuchEndpoint = 11
 
+-- Document 01's number of every refusal.
 abbrev pub numberOf : Refusal → ℕ
 numberOf (Usb e) = errorNumber e
 numberOf Address = 12

@@ -23,10 +23,12 @@ inTaken true n c k buf m = record { long = true; packets = c; inflight = k; buff
 inTaken false n c k buf m =
     record { long = false; packets = inRetire c n .rest; inflight = k - 1; buffer = sets buf (c .offset) (take (inRetire c n .count) (drop (slotAddress (c .parity)) m)) }
 
+-- Only a slot in flight that is full is retired.
 abbrev pub inRetireIf : Bool → ℕ → InDepacketiser → ℕ → List ℕ → List ℕ → InRetiring
 inRetireIf false n c k buf m = record { long = false; packets = c; inflight = k; buffer = buf }
 inRetireIf true n c k buf m = inTaken (ltb 64 n) n c k buf m
 
+-- One IN slot, by the word of EP_BUFFER_CONTROL.
 unfoldable pub inRetireOne : ℕ → InDepacketiser → ℕ → List ℕ → List ℕ → InRetiring
 inRetireOne w c k buf m = inRetireIf (ltb 0 k && full w (c .parity)) (lengthIn w (c .parity)) c k buf m
 
@@ -35,9 +37,11 @@ pub record OutRetiring : Type 0 where
   pub parity : Bool
   pub inflight : ℕ
 
+-- Only a slot in flight that isn't FULL any more is retired.
 abbrev pub outRetireIf : Bool → Bool → ℕ → OutRetiring
 outRetireIf false s k = record { parity = s; inflight = k }
 outRetireIf true s k = record { parity = not s; inflight = k - 1 }
 
+-- One OUT slot, by the word of EP_BUFFER_CONTROL.
 unfoldable pub outRetireOne : ℕ → Bool → ℕ → OutRetiring
 outRetireOne w s k = outRetireIf (ltb 0 k && not (full w s)) s k

@@ -18,6 +18,7 @@ pub record Error : Type 0 where
   pub place : ℕ
   pub is : UsbError
 
+-- An error at a bit.
 abbrev pub error : ℕ → UsbError → Error
 error k e = record { place = k; is = e }
 
@@ -25,6 +26,7 @@ error k e = record { place = k; is = e }
 abbrev pub errors : List Error
 errors = error 31 DataSeqError ∷ error 29 Stall ∷ error 26 Overflow ∷ error 27 Timeout ∷ error 25 BitStuffError ∷ error 24 CrcError ∷ []
 
+-- The first error of a list that is set.
 abbrev pub firstOf : ℕ → List Error → Found
 firstOf w [] = Neither
 firstOf w (e ∷ es) = cond (bit (e .place) w) (Failed (e .is)) (firstOf w es)
@@ -42,8 +44,10 @@ classify status intr = cond (eqb (bitAnd intr readyMask) 0) Pending (Ready (cond
 abbrev pub available : ℕ → Bool → Bool
 available w s = bit (at s 10) w
 
+-- Its FULL.
 abbrev pub full : ℕ → Bool → Bool
 full w s = bit (at s 15) w
 
+-- Its LENGTH.
 abbrev pub lengthIn : ℕ → Bool → ℕ
 lengthIn w s = field (at s 0) 10 w

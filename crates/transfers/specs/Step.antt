@@ -40,6 +40,7 @@ setupDone phaseOut true x n buf m = failed x BufferTooSmall m buf
 setupDone phaseOut false x n buf m = entersOut x false 0 n buf m buf
 setupDone phaseNone short x n buf m = entersIn x true 0 m buf
 
+-- "in SETUP only waiting"; an error ends it; complete, the data or status stage follows.
 unfoldable pub setupStep : Found → Request → List ℕ → List ℕ → Outcome
 setupStep Complete x buf m = let c = controlOf (x .kind) in setupDone (c .phase) (ltb (x .length) (c .wLength)) x (c .wLength) buf m
 setupStep (Failed e) x buf m = failed x e m buf
@@ -51,6 +52,7 @@ setupStep Neither x buf m = waits x setupStage true nothingArmed [] m buf
 abbrev pub inPackets : Request → InStage → InPacketiser
 inPackets x st = record { slot = st .slot; pid = firstPid (x .kind); remain = st .toarm; size = x .size; zlp = st .zlp }
 
+-- The depacketiser's.
 abbrev pub inReceived : InStage → InDepacketiser
 inReceived st = record { parity = st .retire; remain = st .remain; offset = st .offset }
 
@@ -65,6 +67,7 @@ abbrev pub inControlDone : Bool → DataPhase → Request → ℕ → List ℕ �
 inControlDone true ph x n m buf = ended (Done (statusCount ph (x .length))) false m buf
 inControlDone false ph x n m buf = entersOut x true n 0 [] m buf
 
+-- A bulk IN ends with the bytes received.
 abbrev pub inDone : Kind → Bool → Request → InDepacketiser → List ℕ → List ℕ → Outcome
 inDone (control c) status x d m buf = inControlDone status (c .phase) x (d .offset) m buf
 inDone (bulk b) status x d m buf = ended (Done (d .offset)) (toggleOut (bulk b) (d .parity)) m buf
@@ -74,12 +77,14 @@ abbrev pub inSecondDone : Bool → InRetiring → Request → Bool → List ℕ 
 inSecondDone true h x status m = failed x ProtocolError m (h .buffer)
 inSecondDone false h x status m = inDone (x .kind) status x (h .packets) m (h .buffer)
 
+-- 9 at the first slot; else the completing write, and the second slot.
 abbrev pub inFirstDone : Bool → InRetiring → ℕ → Request → Bool → List ℕ → Outcome
 inFirstDone true g w x status m = failed x ProtocolError m (g .buffer)
 inFirstDone false g w x status m =
     let h = inRetireOne w (g .packets) (g .inflight) (g .buffer) m in
     after (completes ∷ []) (inSecondDone (h .long) h x status m)
 
+-- A completed IN stage.
 unfoldable pub inComplete : Request → InStage → ℕ → List ℕ → List ℕ → Outcome
 inComplete x st w buf m = let g = inRetireOne w (inReceived st) (st .inflight) buf m in inFirstDone (g .long) g w x (st .status) m
 
@@ -90,35 +95,43 @@ inRearm x st d k w m buf =
     waits x (inStage (record { status = st .status; slot = g .packets .slot; toarm = g .packets .remain; zlp = g .packets .zlp; retire = d .parity; remain = d .remain; offset = d .offset; inflight = g .inflight }))
     true nothingArmed (g .writes ++ enableWrites (x .size) (stageLength x (st .status))) m buf
 
+-- 9 at the second slot; else up to two are armed.
 abbrev pub inSecondMoved : Bool → InRetiring → ℕ → Request → InStage → List ℕ → Outcome
 inSecondMoved true h w x st m = failed x ProtocolError m (h .buffer)
 inSecondMoved false h w x st m = inRearm x st (h .packets) (h .inflight) w m (h .buffer)
 
+-- 9 at the first slot; else the second.
 abbrev pub inFirstMoved : Bool → InRetiring → ℕ → Request → InStage → List ℕ → Outcome
 inFirstMoved true g w x st m = failed x ProtocolError m (g .buffer)
 inFirstMoved false g w x st m =
     let h = inRetireOne w (g .packets) (g .inflight) (g .buffer) m in
     inSecondMoved (h .long) h w x st m
 
+-- An IN stage that goes on.
 unfoldable pub inMove : Request → InStage → ℕ → List ℕ → List ℕ → Outcome
 inMove x st w buf m = let g = inRetireOne w (inReceived st) (st .inflight) buf m in inFirstMoved (g .long) g w x st m
 
+-- By what the poll found.
 abbrev pub inFound : Found → Request → InStage → ℕ → List ℕ → List ℕ → Outcome
 inFound Complete x st w buf m = inComplete x st w buf m
 inFound (Failed e) x st w buf m = failed x e m buf
 inFound Neither x st w buf m = inMove x st w buf m
 
+-- A ready poll of an IN stage.
 unfoldable pub inStep : Found → Request → InStage → ℕ → List ℕ → List ℕ → Outcome
 inStep f x st w buf m = after quiets (inFound f x st w buf m)
 
 -- ---- OUT
 
+-- The counters of a stage, as the packetiser has them.
 abbrev pub outPackets : Request → OutStage → OutCounters
 outPackets x st = record { slot = st .slot; pid = firstPid (x .kind); remain = st .remain; offset = st .offset; size = x .size; zlp = st .zlp }
 
+-- "retire up to two slots"
 abbrev pub outRetireTwo : ℕ → Bool → ℕ → OutRetiring
 outRetireTwo w s k = let g = outRetireOne w s k in outRetireOne w (g .parity) (g .inflight)
 
+-- A control In's status is its end, with the count received; a control Out's data is followed by its status.
 abbrev pub outControlDone : Bool → Request → ℕ → List ℕ → List ℕ → Outcome
 outControlDone true x received m buf = ended (Done received) false m buf
 outControlDone false x received m buf = entersIn x true 0 m buf
@@ -128,9 +141,11 @@ abbrev pub outDone : Kind → Request → OutStage → Bool → List ℕ → Lis
 outDone (control c) x st parity m buf = outControlDone (st .status) x (st .received) m buf
 outDone (bulk b) x st parity m buf = ended (Done (x .length)) (toggleOut (bulk b) parity) m buf
 
+-- A completed OUT stage.
 unfoldable pub outComplete : Request → OutStage → ℕ → List ℕ → List ℕ → Outcome
 outComplete x st w m buf = after (completes ∷ []) (outDone (x .kind) x st (outRetireTwo w (st .retire) (st .inflight) .parity) m buf)
 
+-- An OUT stage that goes on: retire up to two, arm up to two.
 unfoldable pub outMove : Request → OutStage → ℕ → List ℕ → List ℕ → Outcome
 outMove x st w buf m =
     let r = outRetireTwo w (st .retire) (st .inflight) in
@@ -138,11 +153,13 @@ outMove x st w buf m =
     waits x (outStage (record { status = st .status; slot = g .packets .slot; remain = g .packets .remain; offset = g .packets .offset; zlp = g .packets .zlp; retire = r .parity; inflight = g .inflight; received = st .received }))
     true (outsArmed (x .address) (endpointOf (x .kind)) (g .first) (g .second)) (g .writes ++ enableWrites (x .size) (stageLength x (st .status))) (g .memory) buf
 
+-- By what the poll found.
 abbrev pub outFound : Found → Request → OutStage → ℕ → List ℕ → List ℕ → Outcome
 outFound Complete x st w buf m = outComplete x st w m buf
 outFound (Failed e) x st w buf m = failed x e m buf
 outFound Neither x st w buf m = outMove x st w buf m
 
+-- A ready poll of an OUT stage.
 unfoldable pub outStep : Found → Request → OutStage → ℕ → List ℕ → List ℕ → Outcome
 outStep f x st w buf m = after quiets (outFound f x st w buf m)
 
@@ -153,18 +170,22 @@ abbrev pub lent : Bool → List ℕ → List ℕ
 lent true buf = []
 lent false buf = buf
 
+-- The caller's buffer stays in a status stage.
 abbrev pub keeping : Bool → List ℕ → Outcome → Outcome
 keeping false buf o = o
 keeping true buf o = record { next = o .next; answer = o .answer; toggle = o .toggle; armed = o .armed; writes = o .writes; memory = o .memory; buffer = buf }
 
+-- A ready poll, by the stage.
 abbrev pub stageStep : Found → Request → Stage → ℕ → List ℕ → List ℕ → Outcome
 stageStep f x setupStage w buf m = setupStep f x buf m
 stageStep f x (inStage st) w buf m = keeping (st .status) buf (inStep f x st w (lent (st .status) buf) m)
 stageStep f x (outStage st) w buf m = keeping (st .status) buf (outStep f x st w (lent (st .status) buf) m)
 
+-- "INTR and 0x458 all zero: waiting"; else the SIE_STATUS write is made and the stage goes on.
 abbrev pub polls : Poll → Request → Stage → ℕ → List ℕ → List ℕ → Outcome
 polls Pending x st w buf m = waits x st false nothingArmed (polled ∷ awaits ∷ []) m buf
 polls (Ready f) x st w buf m = after (polled ∷ []) (stageStep f x st w buf m)
 
+-- What a step does that is not refused.
 unfoldable pub acts : Request → Stage → Sample → List ℕ → List ℕ → Outcome
 acts x st s buf m = polls (classify (s .status) (s .intr)) x st (s .buffers) buf m

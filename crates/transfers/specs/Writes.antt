@@ -18,6 +18,7 @@ use Rattle.transfers.specs.Log.{Write, wr, delay}
 abbrev pub lowWord : SetupPacket → ℕ
 lowWord s = s .bmRequestType + s .bRequest * 0x100 + s .wValue * 0x1_0000
 
+-- SETUP_PACKET_HIGH: wIndex and wLength.
 abbrev pub highWord : SetupPacket → ℕ
 highWord s = s .wIndex + s .wLength * 0x1_0000
 
@@ -26,10 +27,11 @@ abbrev pub preamble : TransferExtras → Bool
 preamble Normal = false
 preamble WithPreamble = true
 
--- `send_setup` up to its first poll: the SETUP packet, then SEND_SETUP, PREAMBLE_EN and START_TRANS.
+-- `send_setup` up to its first poll: first the SETUP packet, with the status cleared.
 abbrev pub setupWords : SetupPacket → List Write
 setupWords s = wr epxControl ones 0x180 ∷ wr epBuffer ones 0 ∷ wr setupLow ones (lowWord s) ∷ wr setupHigh ones (highWord s) ∷ wr sieStatus ones ones ∷ []
 
+-- ADDR_ENDP, SEND_SETUP with PREAMBLE_EN, the delay, START_TRANS.
 abbrev pub setupStart : ℕ → TransferExtras → List Write
 setupStart a x = wr addrEndp ones a ∷ wr sieCtrl 0x4E (2 + weigh (preamble x) 0x40) ∷ delay ∷ wr sieCtrl 1 1 ∷ []
 
@@ -55,6 +57,7 @@ armWrites f a = wr epBuffer (half (a .slot) 0xE3FF) (half (a .slot) (armValue f 
 abbrev pub enables : ℕ → ℕ → ℕ
 enables p n = endingMask + weigh (leb (2 * p) n) buffStatusMask
 
+-- The errors and the control pipe's BUFF_STATUS bits are cleared, the stage's interrupts enabled.
 unfoldable pub enableWrites : ℕ → ℕ → List Write
 enableWrites p n = wr sieStatus ones 0xFF00_0000 ∷ wr buffStatus ones 3 ∷ wr inte (enables p n) (enables p n) ∷ []
 
