@@ -6,6 +6,7 @@ use record::items::Cursor;
 use record::items::ItemAnswer;
 use record::items::first;
 use record::items::item;
+use record::look::version;
 use record::reader::CheckAnswer;
 use record::reader::check;
 use record::refusal::Refusal;
@@ -66,6 +67,7 @@ fn print_item(s: &[u8], cursor: Cursor) -> Cursor {
             print_bulk(b);
             b.next
         }
+        ItemAnswer::Failed(next) => next,
         ItemAnswer::End => cursor,
     }
 }
@@ -84,8 +86,11 @@ fn print_items(s: &[u8], count: usize) {
 }
 
 fn print_transfers(s: &[u8], count: usize) {
-    io::write_all(STDOUT_FILENO, b"WLG 1\n");
-    print_items(s, count);
+    io::write_all(STDOUT_FILENO, b"WLG");
+    print_number(version(s) as usize);
+    io::write_all(STDOUT_FILENO, b"\n");
+    // Each transfer and each count takes at least a byte; past the end nothing is printed.
+    print_items(s, s.len());
     io::write_all(STDOUT_FILENO, b"end");
     print_number(count);
     io::write_all(STDOUT_FILENO, b"\n");

@@ -1,5 +1,5 @@
 -- What begin and step answer that they armed is the wire record, for every list of calls. Assumes nothing.
-use mathlib.Core.Path.{_≡_, refl, ap, ap₂, _∙_}
+use mathlib.Core.Path.{_≡_, refl, ap, _∙_}
 use mathlib.Core.Bool.{Bool, true, false}
 use mathlib.Core.List.{List, [], _∷_, _++_, map}
 use Prim.Native.Nat.{ℕ, _≤_}
@@ -18,7 +18,6 @@ use Rattle.transfers.specs.declared.host_controller.DataPhase.the-variants.{In 
 use Rattle.transfers.specs.declared.wire.Direction.the-variants.{In, Out}
 use Rattle.transfers.specs.declared.refusal.OptionRefusal.{OptionRefusal}
 use Rattle.transfers.specs.declared.refusal.OptionRefusal.the-variants.{Some, None}
-use Rattle.transfers.specs.declared.answers.StepAnswer.{StepAnswer}
 use Rattle.transfers.specs.declared.answers.Armed.{Armed}
 use Rattle.transfers.specs.declared.sample.Sample.{Sample}
 use Rattle.transfers.specs.declared.sample.Poll.{Poll}
@@ -43,19 +42,19 @@ use Rattle.transfers.specs.Arming.{inArmTwo, outArmTwo}
 use Rattle.transfers.specs.Answers.{nothingArmed, outsArmed}
 use Rattle.transfers.specs.State.{endpointOf, targetOf, stageLength, controlOf, addressGood, endpointGood, sizeGood}
 use Rattle.transfers.specs.Retiring.{InRetiring, inRetireOne}
-use Rattle.transfers.specs.Outcome.{Outcome, after, toggleIn, ended, failed, startIn, startOut}
+use Rattle.transfers.specs.Outcome.{Outcome, after, toggleIn, failed, startIn, startOut}
 use Rattle.transfers.specs.Step.{setupDone, setupStep, inPackets, inReceived, inDone, inSecondDone, inFirstDone, inComplete, inRearm, inSecondMoved, inFirstMoved, inMove, inStep, outPackets, outRetireTwo, outControlDone, outDone, outComplete, outMove, outStep, lent, keeping, polls, acts}
 use Rattle.transfers.specs.Calls.{stepIf, mayStep, stepLent, stepOf, cancelIf, eitherServes, cancelOf, Beginning, beginOr, isIdle, beginsControl, beginControlOf, bulkRequest, beginsBulkIn, beginsBulkOut, beginBulkInOf, beginBulkOutOf}
 use Rattle.transfers.specs.Pipes.{opening, polling}
 use Rattle.transfers.specs.Irq.{waking}
 use Rattle.transfers.specs.Detect.{detecting}
 use Rattle.transfers.proofs.Apart.{open-apart, poll-apart, irq-apart, detect-apart}
-use Rattle.record.specs.Grammar.{Entry, out}
+use Rattle.record.specs.Grammar.{out}
 use Rattle.record.specs.Wire.{File, performs, events, entryOf, wire}
 use Rattle.transfers.specs.Driver.{fresh}
 use Rattle.record.specs.Calls.{Begin, control, bulk, Call, begin, step, cancel, openPipe, closePipe, pollPipe, interrupt, detect, call, beginning}
 use Rattle.record.specs.Armed.{entriesArmed}
-use Rattle.record.specs.Record.{recordFrom, answeredFrom, Typed, AllTyped, TypedBegin}
+use Rattle.record.specs.Asked.{Typed, AllTyped, TypedBegin}
 use Rattle.record.specs.Writer.{armedInRange}
 use Rattle.record.proofs.Logs.{Silent, silent-nil, silent-apart, silent-enable}
 use Rattle.record.proofs.Stages.{between, startLog, heads, in-two, out-two, armEvents}
@@ -68,16 +67,16 @@ use Rattle.record.proofs.Beginning.{controlRefusal, bulkRefusal, passed
 
 -- ---- the invariant: in an OUT stage ADDR_ENDP shows the transfer's address and endpoint
 
-record Good (x : Request) : Type 0 where
-  addr : x .address ≤ 127
-  endp : endpointOf (x .kind) ≤ 15
+pub record Good (x : Request) : Type 0 where
+  pub addr : x .address ≤ 127
+  pub endp : endpointOf (x .kind) ≤ 15
 
-abbrev Shows : File → Request → Stage → Type 0
+abbrev pub Shows : File → Request → Stage → Type 0
 Shows f x setupStage = Unit {0}
 Shows f x (inStage st) = Unit {0}
 Shows f x (outStage st) = Shown f (x .address) (endpointOf (x .kind))
 
-abbrev Known : File → Transfer → Type 0
+abbrev pub Known : File → Transfer → Type 0
 Known f Idle = Unit {0}
 Known f (Busy r) = Good (r .request) × Shows f (r .request) (r .stage)
 
@@ -91,10 +90,10 @@ known-file f g Idle e i = tt
 known-file f g (Busy r) e i = (i .0, shows-file f g (r .request) (r .stage) e (i .1))
 
 -- What a call leaves, writes, stores and says that it armed.
-record Tells (f : File) (t : Transfer) (ws : List Write) (m : List ℕ) (a : Armed) : Type 0 where
-  known : Known (performs f ws) t
-  is : wire f ws m ≡ entriesArmed m a
-  ranged : armedInRange a ≡ true
+pub record Tells (f : File) (t : Transfer) (ws : List Write) (m : List ℕ) (a : Armed) : Type 0 where
+  pub known : Known (performs f ws) t
+  pub is : wire f ws m ≡ entriesArmed m a
+  pub ranged : armedInRange a ≡ true
 
 abbrev Told : File → Outcome → Type 0
 Told f o = Tells f (o .next) (o .writes) (o .memory) (o .armed)
@@ -149,9 +148,6 @@ starts-in pre x t status n m f sp gd = record { known = (gd, tt); is = wire-none
 module _ (f : File) (x : Request) (gd : Good x) (now m : List ℕ) where
   tells-failed : (ws : List Write) (e : UsbError) (bf : List ℕ) → Silent (ws ++ []) → Told f (after ws (failed x e m bf))
   tells-failed ws e bf s = still f Idle (ws ++ []) m s tt
-
-  tells-ended : (ws : List Write) (a : StepAnswer) (t : Bool) (bf : List ℕ) → Silent (ws ++ []) → Told f (after ws (ended a t m bf))
-  tells-ended ws a t bf s = still f Idle (ws ++ []) m s tt
 
   tells-setup : Told f (after polledOnly (setupStep Complete x now m))
   unfolding setupStep
@@ -300,7 +296,7 @@ tells-cancel f (Busy r) i = by (eitherServes r)
     by false = still f (Busy r) [] [] silent-nil i
     by true = still f Idle [] [] silent-nil tt
 
-tells-call : (c : Call) (d : Driver) (f : File) → Typed c → Known f (d .transfer)
+pub tells-call : (c : Call) (d : Driver) (f : File) → Typed c → Known f (d .transfer)
     → Tells f (call d c .next .transfer) (call d c .writes) (call d c .memory) (call d c .armed)
 unfolding call
 tells-call (begin x buf m log) d f ty i = tells-begin f (d .transfer) x buf m log (ty .0) i
@@ -323,13 +319,3 @@ ranged-from (c ∷ cs) f d ty i = let k = tells-call c d f (ty .0) i in (k .rang
 
 pub all-ranged : (cs : List Call) → AllTyped cs → AllRanged fresh cs
 all-ranged cs ty = ranged-from cs (λ q. 0) fresh ty tt
-
-answered-from : (cs : List Call) (f : File) (d : Driver) → AllTyped cs → Known f (d .transfer) → recordFrom f d cs ≡ answeredFrom d cs
-unfolding recordFrom answeredFrom
-answered-from [] f d ty i = refl
-answered-from (c ∷ cs) f d ty i =
-    let k = tells-call c d f (ty .0) i in
-    ap₂ {C = List Entry} _++_ (k .is) (answered-from cs (performs f (call d c .writes)) (call d c .next) (ty .1) (k .known))
-
-pub answered : (f : File) (cs : List Call) → AllTyped cs → recordFrom f fresh cs ≡ answeredFrom fresh cs
-answered f cs ty = answered-from cs f fresh ty tt

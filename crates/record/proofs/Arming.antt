@@ -24,8 +24,8 @@ use Rattle.transfers.specs.Memory.{slotAddress}
 use Rattle.transfers.specs.Arming.{mayArm, OutArming, outKept, outArmed, outArmIf, outArm, OutArmings, outArmTwo}
 use Rattle.record.specs.Grammar.{Entry, out}
 use Rattle.record.specs.Wire.{File, Event, outAt, entryOf}
-use Rattle.record.specs.Record.{outEntry}
-use Rattle.record.specs.Premises.{Watch, unarmed, armed, taken, marks}
+use Rattle.record.specs.Asked.{outEntry}
+use Rattle.record.specs.Told.{Watch, unarmed, armed, taken, marks}
 use Rattle.record.proofs.Stages.{armEvents}
 use Rattle.record.proofs.Memory.{slot-same, slot-other, slot-room}
 

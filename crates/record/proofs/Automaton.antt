@@ -10,7 +10,7 @@ use lib.ListN.{length, length-append, replicate, length-replicate}
 use lib.Dec.{eqb, leb, ltb}
 use borrow.Author.Tests.{eqb-true, eqb-false, leb-true, leb-false, ltb-true, eq-eqb, ne-eqb, le-leb, lt-ltb}
 use Rattle.pool.proofs.Cases.{byCases}
-use Rattle.record.specs.Grammar.{Four, Entry, setup, out, lengthIn, Bytes, FourBytes, group, bytes, AllOf, Sizes, Sent, Part, bulk, control, sentEntries, SentFits, AllFit, written, Reading}
+use Rattle.record.specs.Grammar.{Four, Entry, setup, out, lengthIn, Bytes, FourBytes, group, bytes, AllOf, Sizes, Sent, Part, bulk, control, sentEntries, SentFits, AllFit, written, PlainReading}
 use Rattle.record.specs.Grammar as G
 use Rattle.record.specs.Scan.{guard, bulkStart, controlStart, bulkNext, controlNext, feed, feedAll, starts, countAll, Ends, InRange, AllInRange}
 use Rattle.record.specs.declared.scan.Scan.{Scan}
@@ -29,7 +29,7 @@ record BulkTail (a e : ℕ) (q : Bool) (p t : ℕ) (r : List Entry) : Type 0 whe
   short : length l ≤ p
   total : t + length (bytes xs l) ≤ 65535
   are : Bytes (bytes xs l)
-  rest : Reading after
+  rest : PlainReading after
   is : group a e q xs l ++ after ≡ r
 
 record ControlTail (a : ℕ) (wl : ℕ) (q : Bool) (p t : ℕ) (r : List Entry) : Type 0 where
@@ -41,7 +41,7 @@ record ControlTail (a : ℕ) (wl : ℕ) (q : Bool) (p t : ℕ) (r : List Entry) 
   some-last : 1 ≤ length l
   total : t + length (bytes xs l) ≡ wl
   are : Bytes (bytes xs l)
-  rest : Reading after
+  rest : PlainReading after
   is : group a 0 q xs l ++ after ≡ r
 
 -- What follows a SETUP of wLength wl.
@@ -63,11 +63,11 @@ record SetupTail (a : ℕ) (wl : ℕ) (r : List Entry) : Type 0 where
   s : Sent
   fits : SentOf wl s
   after : List Entry
-  rest : Reading after
+  rest : PlainReading after
   is : sentEntries a s ++ after ≡ r
 
 abbrev Lang : Scan → List Entry → Type 0
-Lang between r = Reading r
+Lang between r = PlainReading r
 Lang (afterSetup a wl) r = SetupTail a wl r
 Lang (inBulk a e q p t) r = BulkTail a e q p t r
 Lang (inControl a wl q p t) r = ControlTail a wl q p t r
@@ -113,14 +113,14 @@ beq-refl false = refl
 
 -- ---- soundness, entry by entry
 
-one-group : (a e : ℕ) (b : Bool) (l : List ℕ) (r : List Entry) → a ≤ 127 → 1 ≤ e → e ≤ 15 → length l ≤ 64 → Bytes l → Reading r → Reading (out a e b true l ∷ r)
+one-group : (a e : ℕ) (b : Bool) (l : List ℕ) (r : List Entry) → a ≤ 127 → 1 ≤ e → e ≤ 15 → length l ≤ 64 → Bytes l → PlainReading r → PlainReading (out a e b true l ∷ r)
 one-group a e b l r ha he hf hl hb k = record {
   parts = bulk a e b [] l ∷ k .parts;
   fit = ((ha, he, hf, record { p = 64; low = omega arith; high = omega arith; full = tt; short = hl; total = omega arith; are = hb }), k .fit);
   is = ap (λ (s : List Entry). out a e b true l ∷ s) (k .is);
 }
 
-more-group : (a e : ℕ) (b : Bool) (x : List ℕ) (r : List Entry) → a ≤ 127 → 1 ≤ e → e ≤ 15 → 1 ≤ length x → length x ≤ 64 → Bytes x → BulkTail a e (not b) (length x) (length x) r → Reading (out a e b false x ∷ r)
+more-group : (a e : ℕ) (b : Bool) (x : List ℕ) (r : List Entry) → a ≤ 127 → 1 ≤ e → e ≤ 15 → 1 ≤ length x → length x ≤ 64 → Bytes x → BulkTail a e (not b) (length x) (length x) r → PlainReading (out a e b false x ∷ r)
 more-group a e b x r ha he hf lo hi hb k =
     let n = length-append x (bytes (k .xs) (k .l)) in
     record {
@@ -129,7 +129,7 @@ more-group a e b x r ha he hf lo hi hb k =
       is = ap (λ (s : List Entry). out a e b false x ∷ (group a e (not b) (k .xs) (k .l) ++ s)) (k .rest .is) ∙ ap (λ (s : List Entry). out a e b false x ∷ s) (k .is);
     }
 
-setup-part : (a : ℕ) (lo hi : Four) (r : List Entry) → a ≤ 127 → FourBytes lo → FourBytes hi → SetupTail a (lengthIn hi) r → Reading (setup a lo hi ∷ r)
+setup-part : (a : ℕ) (lo hi : Four) (r : List Entry) → a ≤ 127 → FourBytes lo → FourBytes hi → SetupTail a (lengthIn hi) r → PlainReading (setup a lo hi ∷ r)
 setup-part a lo hi r ha hl hh k = record {
   parts = control a lo hi (k .s) ∷ k .rest .parts;
   fit = ((ha, hl, hh, to-fits hi (k .s) (k .fits)), k .rest .fit);
@@ -140,7 +140,7 @@ nil-of : (l : List ℕ) → length l ≡ 0 → l ≡ []
 nil-of [] e = refl
 nil-of (x ∷ l) e = absurd (omega arith)
 
-bulk-start-sound : (a e : ℕ) (b last : Bool) (l : List ℕ) (r : List Entry) (s′ : Scan) → InRange (out a e b last l) → bulkStart a e b last (length l) ≡ some s′ → Lang s′ r → Reading (out a e b last l ∷ r)
+bulk-start-sound : (a e : ℕ) (b last : Bool) (l : List ℕ) (r : List Entry) (s′ : Scan) → InRange (out a e b last l) → bulkStart a e b last (length l) ≡ some s′ → Lang s′ r → PlainReading (out a e b last l ∷ r)
 bulk-start-sound a e b true l r s′ h q k =
     let g = guard-some (leb 1 e) between s′ q in
     one-group a e b l r (h .0) (leb-true 1 e (g .0)) (h .1) (h .2) (h .3) (subst (λ (v : Scan). Lang v r) (sym (g .1)) k)
@@ -293,7 +293,7 @@ control-next-sound a wl q p t a′ e′ b false l r s′ h g k =
     }
 
 -- Nothing of the control comes first: the list begins another part.
-no-sent : (a : ℕ) (wl : ℕ) (r : List Entry) → Reading r → SetupTail a wl r
+no-sent : (a : ℕ) (wl : ℕ) (r : List Entry) → PlainReading r → SetupTail a wl r
 no-sent a wl r k = record { s = G.none; fits = tt; after = r; rest = k; is = refl }
 
 -- wLength of bytes.
@@ -342,7 +342,7 @@ eqb-self n = eq-eqb n n refl
 all-of : (p n : ℕ) (xs : List (List ℕ)) → n ≡ p → AllOf p xs → AllOf n xs
 all-of p n xs e h = subst (λ (k : ℕ). AllOf k xs) (sym e) h
 
-abbrev read-of : (ps : List Part) → AllFit ps → Reading (written ps)
+abbrev read-of : (ps : List Part) → AllFit ps → PlainReading (written ps)
 read-of ps h = record { parts = ps; fit = h; is = refl }
 
 between-parts : (ps : List Part) (e : Entry) (r : List Entry) → AllFit ps → written ps ≡ e ∷ r → Step between e r (length ps)
@@ -399,7 +399,7 @@ last-taken wl l (inr h) = rw (eq-eqb (length l) wl (h .1)) (or-true (eqb (length
 cons-none : {A : Type 0} (x : List ℕ) (xs : List (List ℕ)) → x ∷ xs ≡ [] → A
 cons-none x xs q = absurd (let z : _≡_ {A = ℕ} 0 1 = cc in omega arith)
 
-after-setup : (a : ℕ) (wl : ℕ) (s : Sent) (after : List Entry) (e : Entry) (r : List Entry) → SentOf wl s → (k : Reading after) → sentEntries a s ++ after ≡ e ∷ r → Step (afterSetup a wl) e r (length (k .parts))
+after-setup : (a : ℕ) (wl : ℕ) (s : Sent) (after : List Entry) (e : Entry) (r : List Entry) → SentOf wl s → (k : PlainReading after) → sentEntries a s ++ after ≡ e ∷ r → Step (afterSetup a wl) e r (length (k .parts))
 after-setup a wl G.none after e r f k q =
     let st = between-parts (k .parts) e r (k .fit) (k .is ∙ q) in
     record { next = st .next; fed = later a wl e (st .next) (st .fed); lang = st .lang; counted = ap (λ (n : ℕ). n + due (st .next) r (st .lang)) (later-starts a wl e (st .next) (st .fed)) ∙ st .counted }
@@ -433,7 +433,7 @@ after-setup a wl (G.some (x ∷ xs) l) after e r (inr f) k q =
     })
 
 in-bulk : (a n : ℕ) (v : Bool) (p t : ℕ) (xs : List (List ℕ)) (l : List ℕ) (after : List Entry) (e : Entry) (r : List Entry)
-    → AllOf p xs → length l ≤ p → t + length (bytes xs l) ≤ 65535 → Bytes (bytes xs l) → (k : Reading after) → group a n v xs l ++ after ≡ e ∷ r → Step (inBulk a n v p t) e r (length (k .parts))
+    → AllOf p xs → length l ≤ p → t + length (bytes xs l) ≤ 65535 → Bytes (bytes xs l) → (k : PlainReading after) → group a n v xs l ++ after ≡ e ∷ r → Step (inBulk a n v p t) e r (length (k .parts))
 in-bulk a n v p t [] l after e r f s tot by k q =
     step-at (inBulk a n v p t) (length (k .parts)) (out a n v true l) e after r q (record { next = between; fed = rw (eqb-self a, eqb-self n, beq-refl v, le-leb (length l) p s, le-leb (t + length l) 65535 tot); lang = k; counted = omega arith })
 in-bulk a n v p t (x ∷ xs) l after e r f s tot by k q =
@@ -447,7 +447,7 @@ in-bulk a n v p t (x ∷ xs) l after e r f s tot by k q =
     })
 
 in-control : (a : ℕ) (wl : ℕ) (v : Bool) (p t : ℕ) (xs : List (List ℕ)) (l : List ℕ) (after : List Entry) (e : Entry) (r : List Entry)
-    → AllOf p xs → length l ≤ p → 1 ≤ length l → t + length (bytes xs l) ≡ wl → Bytes (bytes xs l) → (k : Reading after) → group a 0 v xs l ++ after ≡ e ∷ r → Step (inControl a wl v p t) e r (length (k .parts))
+    → AllOf p xs → length l ≤ p → 1 ≤ length l → t + length (bytes xs l) ≡ wl → Bytes (bytes xs l) → (k : PlainReading after) → group a 0 v xs l ++ after ≡ e ∷ r → Step (inControl a wl v p t) e r (length (k .parts))
 in-control a wl v p t [] l after e r f s o tot by k q =
     step-at (inControl a wl v p t) (length (k .parts)) (out a 0 v true l) e after r q (record { next = between; fed = rw (eqb-self a, beq-refl v, le-leb 1 (length l) o, le-leb (length l) p s, eq-eqb (t + length l) wl tot); lang = k; counted = omega arith })
 in-control a wl v p t (x ∷ xs) l after e r f s o tot by k q =
@@ -478,7 +478,7 @@ no-parts [] q = refl
 no-parts (bulk a e b xs l ∷ ps) q = no-group a e b xs l (written ps) q
 no-parts (control a lo hi s ∷ ps) q = none-entry (setup a lo hi) (sentEntries a s ++ written ps) (sym q)
 
-none-sent : (a wl : ℕ) (s : Sent) (after : List Entry) (k : Reading after) → sentEntries a s ++ after ≡ [] → length (k .parts) ≡ 0
+none-sent : (a wl : ℕ) (s : Sent) (after : List Entry) (k : PlainReading after) → sentEntries a s ++ after ≡ [] → length (k .parts) ≡ 0
 none-sent a wl G.none after k q = no-parts (k .parts) (k .is ∙ q)
 none-sent a wl (G.some xs l) after k q = no-group a 0 true xs l after q
 
@@ -650,18 +650,18 @@ ends-some (some (inBulk a e q p t)) h = absurd h
 ends-some (some (inControl a wl q p t)) h = absurd h
 
 -- The automaton takes exactly the records of the grammar; an entry that it does not take has no grammatical end after it; every other prefix has one.
-pub record Reader : Type 0 where
-  pub takes-all : (r : List Entry) → Reading r → Ends (feedAll (some between) r)
-  pub counts : (r : List Entry) (k : Reading r) → countAll (some between) r ≡ length (k .parts)
-  pub takes-only : (r : List Entry) → AllInRange r → Ends (feedAll (some between) r) → Reading r
-  pub refuses : (pre post : List Entry) → feedAll (some between) pre ≡ none → Reading (pre ++ post) → ⊥
-  pub viable : (pre : List Entry) (s : Scan) → AllInRange pre → feedAll (some between) pre ≡ some s → (post : List Entry) × Reading (pre ++ post)
+pub record PlainReader : Type 0 where
+  pub takes-all : (r : List Entry) → PlainReading r → Ends (feedAll (some between) r)
+  pub counts : (r : List Entry) (k : PlainReading r) → countAll (some between) r ≡ length (k .parts)
+  pub takes-only : (r : List Entry) → AllInRange r → Ends (feedAll (some between) r) → PlainReading r
+  pub refuses : (pre post : List Entry) → feedAll (some between) pre ≡ none → PlainReading (pre ++ post) → ⊥
+  pub viable : (pre : List Entry) (s : Scan) → AllInRange pre → feedAll (some between) pre ≡ some s → (post : List Entry) × PlainReading (pre ++ post)
 
-pub reader : Reader
-reader = record {
+pub plain-reader : PlainReader
+plain-reader = record {
   takes-all = λ r k. takes r between k .ends;
   counts = λ r k. takes r between k .count;
-  takes-only = λ r h e. let u = ends-some (feedAll (some between) r) e in subst Reading (append-nil r) (back r between (u .0) [] tt h (u .1) (u .2));
+  takes-only = λ r h e. let u = ends-some (feedAll (some between) r) e in subst PlainReading (append-nil r) (back r between (u .0) [] tt h (u .1) (u .2));
   refuses = λ pre post q k. none-stays post (subst (λ (o : OptionScan). Ends (feedAll o post)) q (subst Ends (feed-append (some between) pre post) (takes (pre ++ post) between k .ends)));
   viable = λ pre s h q. let z = ending s (all-met pre between s tt h q) in (z .post, back pre between s (z .post) tt h q (z .lang));
 }

@@ -29,8 +29,8 @@ use Rattle.transfers.proofs.OpenPipes.{between, lent-sizes}
 use Rattle.record.specs.Grammar.{Entry}
 use Rattle.record.specs.Wire.{File}
 use Rattle.record.specs.Calls.{Begin, control, bulk, begin, beginning, begins}
-use Rattle.record.specs.Record.{TypedSetup, TypedBegin, armedBy}
-use Rattle.record.specs.Premises.{Live, none, live, Watch}
+use Rattle.record.specs.Asked.{TypedSetup, TypedBegin, armedBy}
+use Rattle.record.specs.Told.{Live, none, live, Watch}
 use Rattle.record.proofs.Logs.{silent-nil}
 use Rattle.record.proofs.Cuts.{all-cut}
 use Rattle.record.proofs.Begins.{Checked}

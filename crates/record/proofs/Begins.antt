@@ -1,10 +1,8 @@
 -- What is known of a begin that the table doesn't refuse. Assumes nothing.
-use mathlib.Core.List.{List, [], _∷_}
+use mathlib.Core.List.{List}
 use Prim.Native.Nat.{ℕ, _≤_}
 use native.Mathlib.Omega.{arith}
 use lib.ListN.{length}
-use Rattle.cutting.specs.declared.transfer_type.TransferType.{TransferType}
-use Rattle.cutting.specs.declared.transfer_type.TransferType.the-variants.{FixedSize}
 use Rattle.transfers.specs.declared.host_controller.DataPhase.the-variants.{In as phaseIn, Out as phaseOut, None as phaseNone}
 use Rattle.transfers.specs.declared.driver.Transfer.{Transfer}
 use Rattle.transfers.specs.declared.driver.Transfer.the-variants.{Busy}
@@ -15,7 +13,7 @@ use Rattle.transfers.specs.declared.driver.Kind.the-variants.{Control as contro
 use Rattle.transfers.specs.State.{endpointOf}
 use Rattle.record.specs.Grammar.{Bytes}
 use Rattle.record.specs.Calls.{Begin, control, bulk}
-use Rattle.record.specs.Record.{TypedSetup, Begun}
+use Rattle.record.specs.Asked.{TypedSetup}
 
 -- The fields of a begin that the driver's state keeps.
 abbrev pub addressOf : Begin → ℕ
@@ -36,10 +34,6 @@ requestOf x buf = record { address = addressOf x; size = sizeOf x; kind = kindOf
 -- The transfer in a stage.
 abbrev pub busy : Begin → List ℕ → Stage → Transfer
 busy x buf st = Busy (record { request = requestOf x buf; stage = st })
-
-abbrev pub typeOf : Begin → TransferType
-typeOf (control a x p s ph) = FixedSize
-typeOf (bulk d a e p t b) = t
 
 -- A control's SETUP has the fields of its type; a bulk begin's endpoint and buffer were checked.
 abbrev pub KindChecked : Begin → List ℕ → Type 0
@@ -67,7 +61,3 @@ pub record Proper (x : Begin) (buf : List ℕ) : Type 0 where
   pub checked : Checked x buf
   pub room : Room x buf
   pub are : Bytes buf
-
-abbrev pub AllProper : List Begun → Type 0
-AllProper [] = Unit {0}
-AllProper (g ∷ gs) = Proper (g .fields) (g .buffer) × AllProper gs

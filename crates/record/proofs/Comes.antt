@@ -18,14 +18,15 @@ use Rattle.transfers.specs.declared.wire.SetupPacket.{SetupPacket}
 use Rattle.transfers.specs.declared.wire.Direction.the-variants.{Out}
 use Rattle.transfers.specs.Memory.{lentFits}
 use Rattle.record.specs.Grammar as G
-use Rattle.record.specs.Grammar.{Four, four, lengthIn, Bytes, FourBytes, Entry, setup, out, group, bytes, AllOf, Sent, Part, entries, Fits, AllFit, SentFits, written, Reading}
+use Rattle.record.specs.Grammar.{Four, four, lengthIn, Bytes, FourBytes, Entry, setup, out, group, bytes, AllOf, Sent, Part, entries, Fits, AllFit, SentFits, written, PlainReading}
 use Rattle.record.specs.Wire.{File}
 use Rattle.transfers.specs.Driver.{fresh}
 use Rattle.record.specs.Calls.{control, bulk, Call}
 use Rattle.record.specs.Armed.{setupEntry}
-use Rattle.record.specs.Record.{Words, TypedSetup, Begun, outEntry, armedBy, begunFrom}
-use Rattle.record.specs.Premises.{unarmed, PremisesFrom}
-use Rattle.record.specs.Term3.{ComesFrom}
+use Rattle.record.specs.Asked.{AllTyped, Words, TypedSetup, Begun, outEntry, armedBy}
+use Rattle.record.specs.Fates.{begunFrom}
+use Rattle.record.specs.Told.{none, unarmed}
+use Rattle.record.proofs.Unbroken.{entriesFrom, UnbrokenFrom}
 use Rattle.record.proofs.Cuts.{cutAt, cut-is, cut-more, cut-last}
 use Rattle.record.proofs.Begins.{Checked}
 use Rattle.record.proofs.Parts.{armedByAll}
@@ -174,7 +175,7 @@ module _ (m log : List ℕ) (fits : lentFits m log ≡ true) (mb : Bytes m) (lw 
     is : armedByAll begun ≡ written qs
 
   find : (qs : List Part) → AllFit qs → Found qs
-  unfolding begunFrom PremisesFrom
+  unfolding begunFrom UnbrokenFrom
   find [] h = record { calls = []; begun = []; free = record { typed = tt; premises = λ n w f d r. refl; begun = λ d r. refl }; is = refl }
   find (q ∷ qs) h =
       let r = find qs (h .1) in
@@ -201,8 +202,15 @@ log-words : Words log
 unfolding log
 log-words = zero-words 192
 
-pub comes : (f : File) (r : List Entry) → Reading r → ComesFrom f r
-comes f r h =
+-- A list of calls in which no transfer fails and that has given entries.
+pub record CallsFor (f : File) (r : List Entry) : Type 0 where
+  pub calls : List Call
+  pub typed : AllTyped calls
+  pub premises : UnbrokenFrom none 0 unarmed f fresh calls
+  pub is : entriesFrom f fresh calls ≡ r
+
+pub calls-for : (f : File) (r : List Entry) → PlainReading r → CallsFor f r
+calls-for f r h =
     let k = find memory log lent-enough memory-bytes log-words (h .parts) (h .fit) in
     let p = k .free .premises 0 unarmed f fresh refl in
     record {

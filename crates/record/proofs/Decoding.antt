@@ -1,21 +1,24 @@
 -- Decoding an entry's encoding gives the entry, and encoding what was decoded gives the bytes back.
 -- Assumes nothing.
-use mathlib.Core.Path.{_≡_, refl, sym, ap, _∙_}
+use mathlib.Core.Path.{_≡_, refl, sym, ap, ap₂, _∙_}
 use mathlib.Core.Bool.{Bool, true, false}
 use mathlib.Core.List.{List, [], _∷_, _++_}
-use Prim.Native.Nat.{ℕ, zero, suc, _+_, _*_, _-_, _≤_, _<_}
+use Prim.Native.Nat.{ℕ, zero, suc, _+_, _*_, _-_, _/_, _%_, _≤_, _<_}
 use native.Mathlib.Omega.{arith}
 use lib.ListN.{length, take, drop, getD, length-append, take-append-drop, length-drop}
 use lib.Seq.{drop-cons, drop-drop, length-take-le, drop-append-seam}
 use lib.Dec.{eqb, leb}
 use borrow.Author.Tests.{ne-eqb, le-leb}
 use Rattle.record.specs.Grammar.{four, Entry, setup, out, lengthIn, Bytes}
-use Rattle.record.specs.Bytes.{bit, encode}
-use Rattle.record.specs.Scan.{feed, starts, InRange}
-use Rattle.record.specs.Reader.{lookSetup, fieldsFit, lookOut, look, goOn, turnLook, turnOf}
+use Rattle.record.specs.Segments.{Element, entry, failed}
+use Rattle.record.specs.Bytes.{bit, encode, failedBytes, encodeElement}
+use Rattle.record.specs.Scan.{InRange}
+use Rattle.record.specs.Place.{feedElement, runAfter, countAfter, ElementInRange}
+use Rattle.record.specs.Reader.{lookSetup, fieldsFit, lookOut, lookFailed, look, goOn, turnLook, turnOf}
 use Rattle.record.specs.declared.look.Look.{Look}
-use Rattle.record.specs.declared.look.Look.the-variants.{Setup, Out}
+use Rattle.record.specs.declared.look.Look.the-variants.{Setup, Out, Failed}
 use Rattle.record.specs.declared.reader.Progress.{Progress}
+use Rattle.record.specs.Verdict.{OfVersion}
 use Rattle.record.proofs.Looking.{OutFits}
 
 -- What the reader sees of an entry.
@@ -58,17 +61,46 @@ look-encode (out a e b last l) post h = see-out a e b last l post (h .0) (h .1) 
 pub drop-encode : (e : Entry) (post : List ℕ) → drop (length (encode e)) (encode e ++ post) ≡ post
 drop-encode e post = drop-append-seam (encode e) post
 
-turn-look : (e : Entry) (p : Progress) → turnLook (lookOf e) p ≡ goOn (feed (p .scan) e) (p .at + length (encode e)) (p .count + starts (p .scan) e)
-turn-look (setup a (four b0 b1 b2 b3) (four b4 b5 b6 b7)) p = refl
-turn-look (out a e b last l) p =
+-- A count: its four bytes.
+value-back : (n : ℕ) → (n % 65536 % 256 + n % 65536 / 256 * 256) + (n / 65536 % 256 + n / 65536 / 256 * 256) * 65536 ≡ n
+value-back n =
+    let a : n % 65536 % 256 + n % 65536 / 256 * 256 ≡ n % 65536 = omega arith in
+    let b : n / 65536 % 256 + n / 65536 / 256 * 256 ≡ n / 65536 = omega arith in
+    let c : n % 65536 + n / 65536 * 65536 ≡ n = omega arith in
+    ap₂ (λ (x y : ℕ). x + y * 65536) a b ∙ c
+
+-- What the reader sees of an entry of version 2.
+abbrev pub lookMark : Element → Look
+lookMark (entry e) = lookOf e
+lookMark (failed m) = Failed m
+
+pub see-failed : (m : ℕ) (post : List ℕ) → look (failedBytes m ++ post) ≡ Failed m
+unfolding look lookFailed
+see-failed m post =
+    let l : List ℕ = failedBytes m ++ post in
+    rw (ne-eqb (length l) 0 (λ (z : length l ≡ 0). omega arith), le-leb 5 (length l) (omega arith)) (ap Failed (value-back m))
+
+pub look-mark : (m : Element) (post : List ℕ) → ElementInRange m → look (encodeElement m ++ post) ≡ lookMark m
+look-mark (entry e) post h = look-encode e post h
+look-mark (failed m) post h = see-failed m post
+
+pub drop-mark : (m : Element) (post : List ℕ) → drop (length (encodeElement m)) (encodeElement m ++ post) ≡ post
+drop-mark m post = drop-append-seam (encodeElement m) post
+
+turn-look : (two : Bool) (m : Element) (p : Progress) → OfVersion two m
+    → turnLook two (lookMark m) p ≡ goOn (feedElement (p .scan) (p .run) m) (p .at + length (encodeElement m)) (runAfter (p .scan) (p .run) m) (countAfter (p .scan) (p .count) m)
+turn-look two (entry (setup a (four b0 b1 b2 b3) (four b4 b5 b6 b7))) p v = refl
+turn-look two (entry (out a e b last l)) p v =
     let z : 6 + length l ≡ length (encode (out a e b last l)) = omega arith in
-    ap (λ (n : ℕ). goOn (feed (p .scan) (out a e b last l)) (p .at + n) (p .count + starts (p .scan) (out a e b last l))) z
+    let m = entry (out a e b last l) in
+    ap (λ (n : ℕ). goOn (feedElement (p .scan) (p .run) m) (p .at + n) (runAfter (p .scan) (p .run) m) (countAfter (p .scan) (p .count) m)) z
+turn-look two (failed m) p v = ap (λ (b : Bool). turnLook b (Failed m) p) v
 
 -- The turn at an entry's encoding feeds the entry.
-pub turn-encode : (s : List ℕ) (p : Progress) (e : Entry) (post : List ℕ) → drop (p .at) s ≡ encode e ++ post → InRange e
-    → turnOf s p ≡ goOn (feed (p .scan) e) (p .at + length (encode e)) (p .count + starts (p .scan) e)
+pub turn-mark : (s : List ℕ) (two : Bool) (p : Progress) (m : Element) (post : List ℕ) → drop (p .at) s ≡ encodeElement m ++ post → ElementInRange m → OfVersion two m
+    → turnOf s two p ≡ goOn (feedElement (p .scan) (p .run) m) (p .at + length (encodeElement m)) (runAfter (p .scan) (p .run) m) (countAfter (p .scan) (p .count) m)
 unfolding turnOf
-turn-encode s p e post q h = ap (λ (l : List ℕ). turnLook (look l) p) q ∙ ap (λ (y : Look). turnLook y p) (look-encode e post h) ∙ turn-look e p
+turn-mark s two p m post q h v = ap (λ (l : List ℕ). turnLook two (look l) p) q ∙ ap (λ (y : Look). turnLook two y p) (look-mark m post h) ∙ turn-look two m p v
 
 -- ---- back
 
@@ -89,18 +121,20 @@ bytes-take (suc n) [] h = tt
 bytes-take (suc n) (x ∷ l) h = (h .0, bytes-take n l (h .1))
 
 -- The entry that stands at the front of bytes.
-pub record Decoded (l : List ℕ) : Type 0 where
-  pub entry : Entry
-  pub ranged : InRange entry
+pub record Decoded (two : Bool) (l : List ℕ) : Type 0 where
+  pub mark : Element
+  pub ranged : ElementInRange mark
+  pub version : OfVersion two mark
   pub rest : List ℕ
-  pub is : l ≡ encode entry ++ rest
+  pub is : l ≡ encodeElement mark ++ rest
 
 one-more : (l : List ℕ) (j : ℕ) (r : List ℕ) → j < length l → drop (suc j) l ≡ r → drop j l ≡ getD l j 0 ∷ r
 one-more l j r h q = drop-cons l j 0 h ∙ ap (λ (v : List ℕ). getD l j 0 ∷ v) q
 
-pub setup-decoded : (l : List ℕ) → Bytes l → getD l 0 0 ≡ 0x53 → 10 ≤ length l → getD l 1 0 ≤ 127 → Decoded l
-setup-decoded l b k h a = record {
-  entry = setup (getD l 1 0) (four (getD l 2 0) (getD l 3 0) (getD l 4 0) (getD l 5 0)) (four (getD l 6 0) (getD l 7 0) (getD l 8 0) (getD l 9 0));
+pub setup-decoded : (two : Bool) (l : List ℕ) → Bytes l → getD l 0 0 ≡ 0x53 → 10 ≤ length l → getD l 1 0 ≤ 127 → Decoded two l
+setup-decoded two l b k h a = record {
+  version = tt;
+  mark = entry (setup (getD l 1 0) (four (getD l 2 0) (getD l 3 0) (getD l 4 0) (getD l 5 0)) (four (getD l 6 0) (getD l 7 0) (getD l 8 0) (getD l 9 0)));
   ranged = (a, (byte-at l 2 b, byte-at l 3 b, byte-at l 4 b, byte-at l 5 b), (byte-at l 6 b, byte-at l 7 b, byte-at l 8 b, byte-at l 9 b));
   rest = drop 10 l;
   is =
@@ -114,8 +148,8 @@ bit-back zero h = refl
 bit-back (suc zero) h = refl
 bit-back (suc (suc n)) h = absurd (omega arith)
 
-pub out-decoded : (l : List ℕ) → Bytes l → OutFits l → Decoded l
-out-decoded l b f =
+pub out-decoded : (two : Bool) (l : List ℕ) → Bytes l → OutFits l → Decoded two l
+out-decoded two l b f =
     let n = getD l 5 0 in
     let w = f .whole in
     let m = take n (drop 6 l) in
@@ -123,7 +157,8 @@ out-decoded l b f =
     let d : length (drop 6 l) ≡ length l - 6 = length-drop 6 l in
     let lm : length m ≡ n = length-take-le n (drop 6 l) (omega arith) in
     record {
-      entry = out (getD l 1 0) (getD l 2 0) (eqb (getD l 3 0) 1) (eqb (getD l 4 0) 1) m;
+      version = tt;
+      mark = entry (out (getD l 1 0) (getD l 2 0) (eqb (getD l 3 0) 1) (eqb (getD l 4 0) 1) m);
       ranged = (f .address, f .endpoint, (let s = f .short in omega arith), bytes-take n (drop 6 l) (bytes-drop 6 l b));
       rest = drop (6 + n) l;
       is =
@@ -135,3 +170,39 @@ out-decoded l b f =
     again : {k p q n k′ p′ q′ n′ : ℕ} {r : List ℕ} → k ≡ k′ → p ≡ p′ → q ≡ q′ → n ≡ n′
         → k ∷ getD l 1 0 ∷ getD l 2 0 ∷ p ∷ q ∷ n ∷ r ≡ k′ ∷ getD l 1 0 ∷ getD l 2 0 ∷ p′ ∷ q′ ∷ n′ ∷ r
     again e₁ e₂ e₃ e₄ = cc
+
+pub failed-decoded : (l : List ℕ) → Bytes l → getD l 0 0 ≡ 0x58 → 5 ≤ length l → Decoded true l
+failed-decoded l b k h =
+    let x = getD l 1 0 in
+    let y = getD l 2 0 in
+    let z = getD l 3 0 in
+    let u = getD l 4 0 in
+    let hx = byte-at l 1 b in
+    let hy = byte-at l 2 b in
+    let hz = byte-at l 3 b in
+    let hu = byte-at l 4 b in
+    let v = (x + y * 256) + (z + u * 256) * 65536 in
+    let lo : v % 65536 ≡ x + y * 256 = omega arith in
+    let hi : v / 65536 ≡ z + u * 256 = omega arith in
+    let e₁ : x ≡ v % 65536 % 256 = sym (ap (λ (n : ℕ). n % 256) lo ∙ low x y hx) in
+    let e₂ : y ≡ v % 65536 / 256 = sym (ap (λ (n : ℕ). n / 256) lo ∙ high x y hx) in
+    let e₃ : z ≡ v / 65536 % 256 = sym (ap (λ (n : ℕ). n % 256) hi ∙ low z u hz) in
+    let e₄ : u ≡ v / 65536 / 256 = sym (ap (λ (n : ℕ). n / 256) hi ∙ high z u hz) in
+    record {
+      version = refl;
+      mark = failed v;
+      ranged = omega arith;
+      rest = drop 5 l;
+      is =
+          one-more l 0 _ (omega arith) (one-more l 1 _ (omega arith) (one-more l 2 _ (omega arith) (one-more l 3 _ (omega arith) (one-more l 4 (drop 5 l) (omega arith) refl))))
+          ∙ five k e₁ e₂ e₃ e₄;
+    }
+  where
+    low : (x y : ℕ) → x < 256 → (x + y * 256) % 256 ≡ x
+    low x y h = omega arith
+
+    high : (x y : ℕ) → x < 256 → (x + y * 256) / 256 ≡ y
+    high x y h = omega arith
+
+    five : {k a b c d k′ a′ b′ c′ d′ : ℕ} {r : List ℕ} → k ≡ k′ → a ≡ a′ → b ≡ b′ → c ≡ c′ → d ≡ d′ → k ∷ a ∷ b ∷ c ∷ d ∷ r ≡ k′ ∷ a′ ∷ b′ ∷ c′ ∷ d′ ∷ r
+    five e₀ e₁ e₂ e₃ e₄ = cc

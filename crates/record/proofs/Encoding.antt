@@ -2,7 +2,7 @@
 -- Assumes nothing.
 use mathlib.Core.Path.{_≡_, refl, ap, sym, _∙_}
 use mathlib.Core.Bool.{Bool, true, false, cond, _&&_}
-use mathlib.Core.List.{List, [], _∷_, _++_, append-assoc, append-nil}
+use mathlib.Core.List.{List, [], _∷_, _++_, map, append-assoc, append-nil}
 use Prim.Native.Nat.{ℕ, _+_, _≤_}
 use native.Mathlib.Omega.{arith}
 use lib.ListN.{length, take, drop, length-append, length-take, length-drop}
@@ -11,15 +11,18 @@ use borrow.Author.Tests.{leb-true}
 use Rattle.transfers.specs.Memory.{slotAddress}
 use Rattle.transfers.proofs.Stores.{slot-inside}
 use Rattle.transfers.specs.declared.answers.Armed.{Armed}
+use Rattle.transfers.specs.declared.answers.OptionEntries.{OptionEntries}
+use Rattle.transfers.specs.declared.answers.OptionEntries.the-variants.{Some as someCount, None as noCount}
 use Rattle.transfers.specs.declared.answers.OptionSetup.{OptionSetup}
 use Rattle.transfers.specs.declared.answers.OptionSetup.the-variants.{Some as someSetup, None as noSetup}
 use Rattle.transfers.specs.declared.answers.OptionOut.{OptionOut}
 use Rattle.transfers.specs.declared.answers.OptionOut.the-variants.{Some as someOut, None as noOut}
 use Rattle.record.proofs.Both.{and-left, and-right}
 use Rattle.record.specs.Grammar.{Entry, setup}
-use Rattle.record.specs.Bytes.{headBytes, encode, encodeAll}
+use Rattle.record.specs.Segments.{Element, entry}
+use Rattle.record.specs.Bytes.{headBytes, encode, encodeAll, encodeElement, encodeElements}
 use Rattle.record.specs.Armed.{setupsArmed, outsArmed, entriesArmed}
-use Rattle.record.specs.Writer.{setupInRange, outInRange, armedInRange, headOf, appended, setupSize, outSize, armedSize, headSize}
+use Rattle.record.specs.Writer.{setupInRange, outInRange, armedInRange, headOf, appended, countBytes, toldBytes, setupSize, outSize, armedSize, countSize, headSize}
 
 -- Entries written one after another are the encoding of the concatenated list.
 pub encode-append : (a b : List Entry) → encodeAll (a ++ b) ≡ encodeAll a ++ encodeAll b
@@ -27,10 +30,27 @@ unfolding encodeAll
 encode-append [] b = refl
 encode-append (e ∷ a) b = ap (λ (l : List ℕ). encode e ++ l) (encode-append a b) ∙ sym (append-assoc (encode e) (encodeAll a) (encodeAll b))
 
+-- The same in version 2.
+pub elements-append : (a b : List Element) → encodeElements (a ++ b) ≡ encodeElements a ++ encodeElements b
+unfolding encodeElements
+elements-append [] b = refl
+elements-append (m ∷ a) b = ap (λ (l : List ℕ). encodeElement m ++ l) (elements-append a b) ∙ sym (append-assoc (encodeElement m) (encodeElements a) (encodeElements b))
+
+-- Entries of version 1 are encoded as before.
+pub elements-entries : (es : List Entry) → encodeAll es ≡ encodeElements (map entry es)
+unfolding encodeAll encodeElements
+elements-entries [] = refl
+elements-entries (e ∷ es) = ap (λ (l : List ℕ). encode e ++ l) (elements-entries es)
+
 -- One entry.
 pub encode-one : (e : Entry) → encodeAll (e ∷ []) ≡ encode e
 unfolding encodeAll
 encode-one e = append-nil (encode e)
+
+-- One of version 2.
+pub element-one : (m : Element) → encodeElements (m ∷ []) ≡ encodeElement m
+unfolding encodeElements
+element-one m = append-nil (encodeElement m)
 
 -- The bytes of a slot, at most 64, are there.
 pub slot-length : (pm : List ℕ) (slot : Bool) (n : ℕ) → length pm ≡ 4096 → n ≤ 64 → length (take n (drop (slotAddress slot) pm)) ≡ n
@@ -96,3 +116,11 @@ appended-size a pm used e h =
       out-size pm (a .first) e (g .first),
       out-size pm (a .second) e (g .second),
     )
+
+pub count-size : (x : OptionEntries) → length (countBytes x) ≡ countSize x
+count-size noCount = refl
+count-size (someCount n) = refl
+
+pub told-size : (a : Armed) (x : OptionEntries) (pm : List ℕ) (used : ℕ) → length pm ≡ 4096 → armedInRange a ≡ true → length (toldBytes a x pm used) ≡ headSize used + armedSize a + countSize x
+unfolding toldBytes
+told-size a x pm used e h = omega (arith, length-append (appended a pm used) (countBytes x), appended-size a pm used e h, count-size x)

@@ -51,10 +51,14 @@ use Rattle.transfers.proofs.Armings.{out-two-flight, out-two-sum}
 use Rattle.transfers.proofs.OpenPipes.{lent-sizes}
 use Rattle.record.specs.Grammar.{Bytes}
 use Rattle.record.specs.Wire.{File, performs, Event, events}
+use Rattle.transfers.specs.Entries.{armedCount, entriesBegun, entriesStepped}
 use Rattle.transfers.specs.Driver.{fresh, withTransfer}
 use Rattle.record.specs.Calls.{Begin, control, bulk, Call, begin, step, beginning, call, note}
-use Rattle.record.specs.Record.{Words, TypedSample, TypedBegin, AllTyped, Begun, begunBy, begunFrom}
-use Rattle.record.specs.Premises.{none, live, Watch, unarmed, armed, taken, seen, marks, isComplete, finds, sendsNext, stepLive, stepWatch, stepCount, stepFailed, nextLive, nextWatch, nextCount, failed, LentIts, TakenIf, StepGood, CallGood, PremisesFrom}
+use Rattle.record.specs.Asked.{Words, TypedSample, TypedBegin, AllTyped, Begun}
+use Rattle.record.specs.Fates.{begunBy, begunFrom}
+use Rattle.record.specs.Told.{none, live, Watch, unarmed, armed, taken, seen, marks, isComplete, finds, stepLive, stepWatch, stepCount, stepFails, nextLive, nextWatch, nextCount, fails}
+use Rattle.record.specs.Premises.{sendsNext, LentIts, TakenIf, StepGood, CallGood}
+use Rattle.record.proofs.Unbroken.{UnbrokenFrom}
 use Rattle.record.proofs.Logs.{Silent, silent-nil, silent-enable}
 use Rattle.record.proofs.Stages.{between, startLog, heads, out-two, armEvents}
 use Rattle.record.proofs.Arming.{Packets, evOf, none-cons, Two, two, two-alike}
@@ -94,17 +98,17 @@ IsSet (armed s) = Unit {0}
 IsSet taken = Unit {0}
 
 -- The last packet is marked.
-abbrev Marked : Packets → Type 0
-Marked [] = Unit {0}
-Marked (packet s b true l ∷ ks) = Marked ks
-Marked (packet s b false l ∷ ks) = (ks ≡ [] → ⊥) × Marked ks
+abbrev Record : Packets → Type 0
+Record [] = Unit {0}
+Record (packet s b true l ∷ ks) = Record ks
+Record (packet s b false l ∷ ks) = (ks ≡ [] → ⊥) × Record ks
 
-set-marks : (new rest : Packets) (w : Watch) → Marked (new ++ rest) → (new ++ rest ≡ [] → IsSet w) → rest ≡ [] → IsSet (marks w (map evOf new))
+set-marks : (new rest : Packets) (w : Watch) → Record (new ++ rest) → (new ++ rest ≡ [] → IsSet w) → rest ≡ [] → IsSet (marks w (map evOf new))
 set-marks [] rest w q h e = h e
 set-marks (packet s b true l ∷ new) rest w q h e = set-marks new rest (armed s) q (λ r. tt) e
 set-marks (packet s b false l ∷ new) rest w q h e = set-marks new rest w (q .1) (λ r. absurd (q .0 r)) e
 
-marked-after : (new rest : Packets) → Marked (new ++ rest) → Marked rest
+marked-after : (new rest : Packets) → Record (new ++ rest) → Record rest
 marked-after [] rest q = q
 marked-after (packet s b true l ∷ new) rest q = marked-after new rest q
 marked-after (packet s b false l ∷ new) rest q = marked-after new rest (q .1)
@@ -123,7 +127,7 @@ set-seen taken h = tt
 
 -- ---- a cutting has a packet, and its last one is marked
 
-numbered-marked : (s b : Bool) (l : List (List ℕ)) → Marked (numbered s b l)
+numbered-marked : (s b : Bool) (l : List (List ℕ)) → Record (numbered s b l)
 unfolding numbered
 numbered-marked s b [] = tt
 numbered-marked s b (x ∷ []) = tt
@@ -134,7 +138,7 @@ unfolding numbered
 numbered-some s b [] e q = true≢false e
 numbered-some s b (x ∷ l) e q = none-cons (packet s b (empty l) x) (numbered (not s) (not b) l) q
 
-cut-marked : (t : TransferType) (p : ℕ) (b : Bool) (l : List ℕ) → Marked (outCut t p b l)
+cut-marked : (t : TransferType) (p : ℕ) (b : Bool) (l : List ℕ) → Record (outCut t p b l)
 unfolding outCut
 cut-marked t p b l = numbered-marked false b (deal (lengths t p (length l)) l)
 
@@ -162,7 +166,7 @@ Rest d = d .transfer ≡ Idle
 -- A list that meets the premises from every driver with nothing under way, whatever was counted, watched and written before; and the transfers that it begins.
 pub record Free (cs : List Call) (gs : List Begun) : Type 0 where
   pub typed : AllTyped cs
-  pub premises : (n : ℕ) (w : Watch) (f : File) (d : Driver) → Rest d → PremisesFrom none n w f d cs
+  pub premises : (n : ℕ) (w : Watch) (f : File) (d : Driver) → Rest d → UnbrokenFrom none n w f d cs
   pub begun : (d : Driver) → Rest d → begunFrom d cs ≡ gs
 
 -- A transfer in front of a list.
@@ -174,27 +178,27 @@ module _ (m log : List ℕ) (fits : lentFits m log ≡ true) (mb : Bytes m) (lw 
   -- The calls of a transfer under way end it with a count, and the list goes on.
   record Fin (e : Driver) (x : Begin) (buf : List ℕ) (n : ℕ) (w : Watch) (f : File) (t : Transfer) (cs : List Call) : Type 0 where
     typed : AllTyped cs
-    premises : PremisesFrom (live x buf) n w f (withTransfer e t) cs
-    begun : begunFrom (withTransfer e t) cs ≡ gs
+    premises : (k : ℕ) → UnbrokenFrom (live x buf) n w f (withTransfer e t k) cs
+    begun : (k : ℕ) → begunFrom (withTransfer e t k) cs ≡ gs
 
   -- The same after a step's outcome.
   record Goes (e : Driver) (x : Begin) (buf : List ℕ) (n : ℕ) (w : Watch) (f : File) (y : Sample) (o : Outcome) (cs : List Call) : Type 0 where
     typed : AllTyped cs
-    counts : stepFailed (o .answer) ≡ false
+    counts : stepFails (o .answer) ≡ false
     good : StepGood (o .answer) (live x buf) n w y buf
-    premises : PremisesFrom (stepLive (o .answer) (live x buf)) (stepCount (o .answer) y n) (marks (stepWatch (o .answer) w y) (events f (o .writes))) (performs f (o .writes)) (withTransfer e (o .next)) cs
-    begun : begunFrom (withTransfer e (o .next)) cs ≡ gs
+    premises : (k : ℕ) → UnbrokenFrom (stepLive (o .answer) (live x buf)) (stepCount (o .answer) y n) (marks (stepWatch (o .answer) w y) (events f (o .writes))) (performs f (o .writes)) (withTransfer e (o .next) k) cs
+    begun : (k : ℕ) → begunFrom (withTransfer e (o .next) k) cs ≡ gs
 
   module _ (e : Driver) (x : Begin) (buf : List ℕ) (n : ℕ) (w : Watch) (f : File) where
     fin-step : (b : Bool) (t : Transfer) (y : Sample) (cs : List Call) (o : Outcome) → Bytes buf → TypedSample y → stepOf b t y buf m log ≡ o → Goes e x buf n w f y o cs
         → Fin e x buf n w f t (step b y buf m log ∷ cs)
-    unfolding PremisesFrom begunFrom call
+    unfolding UnbrokenFrom begunFrom call
     fin-step b t y cs o bb ty q g = record {
       typed = ((ty, bb, mb, lw), g .typed);
-      premises = subst (λ (o : Outcome). (stepFailed (o .answer) ≡ false) × StepGood (o .answer) (live x buf) n w y buf
-          × PremisesFrom (stepLive (o .answer) (live x buf)) (stepCount (o .answer) y n) (marks (stepWatch (o .answer) w y) (events f (o .writes))) (performs f (o .writes)) (withTransfer e (o .next)) cs) (sym q)
-          (g .counts, g .good, g .premises);
-      begun = subst (λ (o : Outcome). begunFrom (withTransfer e (o .next)) cs ≡ gs) (sym q) (g .begun);
+      premises = λ k. subst (λ (o : Outcome). (stepFails (o .answer) ≡ false) × StepGood (o .answer) (live x buf) n w y buf
+          × UnbrokenFrom (stepLive (o .answer) (live x buf)) (stepCount (o .answer) y n) (marks (stepWatch (o .answer) w y) (events f (o .writes))) (performs f (o .writes)) (withTransfer e (o .next) (entriesStepped (o .answer) k (o .armed))) cs) (sym q)
+          (g .counts, g .good, g .premises (entriesStepped (o .answer) k (o .armed)));
+      begun = λ k. subst (λ (o : Outcome). begunFrom (withTransfer e (o .next) (entriesStepped (o .answer) k (o .armed))) cs ≡ gs) (sym q) (g .begun (entriesStepped (o .answer) k (o .armed)));
     }
 
     goes-wait : (y : Sample) (st : Stage) (again : Bool) (am : Armed) (ws : List Write) (m′ bf : List ℕ) (cs : List Call) (c : Bool) → finds y ≡ c
@@ -206,8 +210,8 @@ module _ (m log : List ℕ) (fits : lentFits m log ≡ true) (mb : Bytes m) (lw 
       counts = refl;
       begun = h .begun;
       good = (lent-own x buf, subst (λ (v : Bool). TakenIf (sendsNext (live x buf) n && v) (seen w y)) (sym q) t);
-      premises = subst (λ (v : Bool). PremisesFrom (live x buf) (cond v (suc n) n) (marks (cond v unarmed (seen w y)) (events f ws)) (performs f ws)
-          (withTransfer e (busy x buf st)) cs) (sym q) (h .premises);
+      premises = λ k. subst (λ (v : Bool). UnbrokenFrom (live x buf) (cond v (suc n) n) (marks (cond v unarmed (seen w y)) (events f ws)) (performs f ws)
+          (withTransfer e (busy x buf st) k) cs) (sym q) (h .premises k);
     }
 
     goes-done : (k : ℕ) (t : Bool) (ws : List Write) (bf : List ℕ) → TakenIf (sendsNext (live x buf) n && true) (seen w doneSample)
@@ -215,9 +219,9 @@ module _ (m log : List ℕ) (fits : lentFits m log ≡ true) (mb : Bytes m) (lw 
     goes-done k t ws bf h = record {
       typed = free .typed;
       counts = refl;
-      begun = free .begun (withTransfer e Idle) refl;
+      begun = λ j. free .begun (withTransfer e Idle j) refl;
       good = (lent-own x buf, subst (λ (v : Bool). TakenIf (sendsNext (live x buf) n && v) (seen w doneSample)) (sym (ap isComplete completing)) h);
-      premises = free .premises n (marks (stepWatch (Done k) w doneSample) (events f (ws ++ []))) (performs f (ws ++ [])) (withTransfer e Idle) refl;
+      premises = λ j. free .premises n (marks (stepWatch (Done k) w doneSample) (events f (ws ++ []))) (performs f (ws ++ [])) (withTransfer e Idle j) refl;
     }
 
     keeps : (s : Bool) (y : Sample) (o : Outcome) (cs : List Call) → Goes e x buf n w f y (after quietened o) cs
@@ -274,7 +278,7 @@ module _ (m log : List ℕ) (fits : lentFits m log ≡ true) (mb : Bytes m) (lw 
 
     out-run : (k : ℕ) (w : Watch) (f : File) (st : OutStage) (ks : Packets) → st .status ≡ status → Fit (requestOf x buf) (outStage st)
         → OutLeft (lent (st .status) buf) (outPackets (requestOf x buf) st) ks
-        → Marked ks → (ks ≡ [] → IsSet w) → length ks ≤ k → Fin e x buf n w f (busy x buf (outStage st)) (outRun b buf k tail)
+        → Record ks → (ks ≡ [] → IsSet w) → length ks ≤ k → Fin e x buf n w f (busy x buf (outStage st)) (outRun b buf k tail)
     unfolding outRun outMove
     out-run zero w f st [] q h l mk i le = complete w f st q (i refl) h
     out-run zero w f st (p ∷ ks) q h l mk i le = absurd (omega arith)
@@ -294,7 +298,7 @@ module _ (m log : List ℕ) (fits : lentFits m log ≡ true) (mb : Bytes m) (lw 
         let ws = quietened ++ (g .writes ++ last) in
         let s = between quietened (g .writes) last (armEvents (g .first) ++ armEvents (g .second)) silent-quietened (out-two 0 c j u m) (silent-enable (sizeOf x) (stageLength X (st .status))) in
         let ev : events f ws ≡ map evOf (t .new) = s .are f ∙ t .says in
-        let mk′ : Marked (t .new ++ t .rest) = subst Marked (t .split) mk in
+        let mk′ : Record (t .new ++ t .rest) = subst Record (t .split) mk in
         let pr = t .progress can in
         let st′ = movedTo st g (r .parity) in
         let a = two-alike 0 c j u m in
@@ -312,7 +316,7 @@ module _ (m log : List ℕ) (fits : lentFits m log ≡ true) (mb : Bytes m) (lw 
 
     -- From its start.
     out-start : (pre : List Write) (ty : TransferType) (received : ℕ) (sent : List ℕ) (ks : Packets) (f : File) → Silent pre → sent ≡ lent status buf
-        → OutLeft (lent status buf) (outStart ty (sizeOf x) (firstPid (kindOf x)) (stageLength (requestOf x buf) status)) ks → Marked ks → (ks ≡ [] → ⊥)
+        → OutLeft (lent status buf) (outStart ty (sizeOf x) (firstPid (kindOf x)) (stageLength (requestOf x buf) status)) ks → Record ks → (ks ≡ [] → ⊥)
         → stageLength (requestOf x buf) status ≤ length buf
         → Fin e x buf n (marks unarmed (events f (pre ++ startOut (targetOf (requestOf x buf)) ty status received (stageLength (requestOf x buf) status) sent m .writes)))
         (performs f (pre ++ startOut (targetOf (requestOf x buf)) ty status received (stageLength (requestOf x buf) status) sent m .writes))
@@ -329,7 +333,7 @@ module _ (m log : List ℕ) (fits : lentFits m log ≡ true) (mb : Bytes m) (lw 
         let h = heads pre (g .writes) (armEvents (g .first) ++ armEvents (g .second)) T k Out sp (out-two 0 c 0 sent m) f in
         let ws = startLog pre T k (g .writes) Out in
         let ev : events f ws ≡ map evOf (t .new) = h .are ∙ t .says in
-        let mk′ : Marked (t .new ++ t .rest) = subst Marked (t .split) mk in
+        let mk′ : Record (t .new ++ t .rest) = subst Record (t .split) mk in
         let pr = t .progress refl in
         let a = two-alike 0 c 0 sent m in
         out-run (length ks) (marks unarmed (events f ws)) (performs f ws) (startOut T ty status received k sent m .stage) (t .rest) refl (start-out-fit X ty status received sent m room)
@@ -343,7 +347,7 @@ module _ (m log : List ℕ) (fits : lentFits m log ≡ true) (mb : Bytes m) (lw 
 
   begin-run : (x : Begin) (buf : List ℕ) (cs : List Call) (o : Beginning) → TypedBegin x → Bytes buf → beginning Idle x buf m log ≡ o → o .answer ≡ accepted
       → ((e : Driver) (f : File) → Fin e x buf 0 (marks unarmed (events f (o .writes))) (performs f (o .writes)) (o .next) cs) → Run (record { fields = x; buffer = buf }) gs
-  unfolding PremisesFrom begunFrom call
+  unfolding UnbrokenFrom begunFrom call
   begin-run x buf cs o ty bb q a fin =
       let c = begin x buf m log in
       record {
@@ -351,17 +355,17 @@ module _ (m log : List ℕ) (fits : lentFits m log ≡ true) (mb : Bytes m) (lw 
         free = record {
           typed = ((ty, bb, mb, lw), fin fresh (λ k. 0) .typed);
           premises = λ n w f d r.
-              subst (λ (o : Beginning). (failed (note c (o .answer)) ≡ false) × CallGood (note c (o .answer)) none n w
-              × PremisesFrom (nextLive (note c (o .answer)) none) (nextCount (note c (o .answer)) n) (nextWatch (note c (o .answer)) w (events f (o .writes))) (performs f (o .writes)) (withTransfer d (o .next)) cs)
+              subst (λ (o : Beginning). (fails (note c (o .answer)) ≡ false) × CallGood (note c (o .answer)) none n w
+              × UnbrokenFrom (nextLive (note c (o .answer)) none) (nextCount (note c (o .answer)) n) (nextWatch (note c (o .answer)) w (events f (o .writes))) (performs f (o .writes)) (withTransfer d (o .next) (entriesBegun (o .answer) (d .entries) (o .armed))) cs)
               (sym (ap (λ (t : Transfer). beginning t x buf m log) r ∙ q))
-              (subst (λ (v : BeginAnswer). (failed (note c v) ≡ false) × CallGood (note c v) none n w
-              × PremisesFrom (nextLive (note c v) none) (nextCount (note c v) n) (nextWatch (note c v) w (events f (o .writes))) (performs f (o .writes)) (withTransfer d (o .next)) cs)
-              (sym a) (refl, tt, fin d f .premises));
+              (subst (λ (v : BeginAnswer). (fails (note c v) ≡ false) × CallGood (note c v) none n w
+              × UnbrokenFrom (nextLive (note c v) none) (nextCount (note c v) n) (nextWatch (note c v) w (events f (o .writes))) (performs f (o .writes)) (withTransfer d (o .next) (entriesBegun v (d .entries) (o .armed))) cs)
+              (sym a) (refl, tt, fin d f .premises (armedCount (o .armed))));
           begun = λ d r.
-              subst (λ (o : Beginning). begunBy (note c (o .answer)) ++ begunFrom (withTransfer d (o .next)) cs ≡ record { fields = x; buffer = buf } ∷ gs)
+              subst (λ (o : Beginning). begunBy (note c (o .answer)) ++ begunFrom (withTransfer d (o .next) (entriesBegun (o .answer) (d .entries) (o .armed))) cs ≡ record { fields = x; buffer = buf } ∷ gs)
               (sym (ap (λ (t : Transfer). beginning t x buf m log) r ∙ q))
-              (subst (λ (v : BeginAnswer). begunBy (note c v) ++ begunFrom (withTransfer d (o .next)) cs ≡ record { fields = x; buffer = buf } ∷ gs)
-              (sym a) (ap (λ (l : List Begun). record { fields = x; buffer = buf } ∷ l) (fin d (λ k. 0) .begun)));
+              (subst (λ (v : BeginAnswer). begunBy (note c v) ++ begunFrom (withTransfer d (o .next) (entriesBegun v (d .entries) (o .armed))) cs ≡ record { fields = x; buffer = buf } ∷ gs)
+              (sym a) (ap (λ (l : List Begun). record { fields = x; buffer = buf } ∷ l) (fin d (λ k. 0) .begun (armedCount (o .armed)))));
         };
       }
 

@@ -24,8 +24,9 @@ use Rattle.transfers.specs.Step.{outPackets, lent}
 use Rattle.record.specs.Grammar.{Entry}
 use Rattle.record.specs.Wire.{File, performs, events, wire}
 use Rattle.record.specs.Calls.{Begin, control, bulk, Call, Effect, note}
-use Rattle.record.specs.Record.{sentOf, packetsOf, outEntry, begunBy}
-use Rattle.record.specs.Premises.{Live, none, live, Watch, unarmed, armed, taken, seen, nextLive, nextCount, nextWatch, failed}
+use Rattle.record.specs.Asked.{sentOf, packetsOf, outEntry}
+use Rattle.record.specs.Fates.{begunBy}
+use Rattle.record.specs.Told.{Live, none, live, Watch, unarmed, armed, taken, seen, nextLive, nextCount, nextWatch, fails}
 use Rattle.record.proofs.Stages.{address-field, endpoint-field}
 use Rattle.record.proofs.Arming.{Packets, Over}
 use Rattle.record.proofs.Begins.{addressOf, kindOf, requestOf, Checked, Room}
@@ -129,8 +130,8 @@ Splits false due now after = due ≡ now ++ after
 pub record Kept (l : Live) (n : ℕ) (w : Watch) (f : File) (rest : List Entry) (c : Call) (o : Effect c) : Type 0 where
   pub rest′ : List Entry
   pub inv : Inv (nextLive (note c (o .answer)) l) (nextCount (note c (o .answer)) n) (nextWatch (note c (o .answer)) w (events f (o .writes))) (performs f (o .writes)) (o .next .transfer) rest′
-  pub split : Splits (failed (note c (o .answer))) (rest ++ armedByAll (begunBy (note c (o .answer)))) (wire f (o .writes) (o .memory)) rest′
-  pub room : failed (note c (o .answer)) ≡ false → RoomOf (nextLive (note c (o .answer)) l) → RoomOf l
+  pub split : Splits (fails (note c (o .answer))) (rest ++ armedByAll (begunBy (note c (o .answer)))) (wire f (o .writes) (o .memory)) rest′
+  pub room : fails (note c (o .answer)) ≡ false → RoomOf (nextLive (note c (o .answer)) l) → RoomOf l
 
 -- ---- what doesn't touch the wire
 

@@ -2,26 +2,28 @@
 -- Assumes nothing.
 use mathlib.Core.Path.{_≡_, refl, ap, ap₂, sym, subst, _∙_}
 use mathlib.Core.Bool.{Bool, true, false}
-use mathlib.Core.List.{List, [], _∷_, _++_, append-assoc, append-nil}
-use Prim.Native.Nat.{ℕ, _+_, _≤_}
+use mathlib.Core.List.{List, [], _∷_, _++_, map, append-assoc, append-nil}
+use Prim.Native.Nat.{ℕ, suc, _+_, _≤_}
 use native.Mathlib.Omega.{arith}
 use lib.ListN.{length, take, drop, length-append}
 use lib.Seq.{sets, sets-eq, length-sets, length-take-le, take-at, drop-at, drop-drop}
 use lib.Dec.{leb}
 use borrow.Author.Tests.{leb-true, ne-eqb}
 use Rattle.transfers.specs.declared.answers.Armed.{Armed}
+use Rattle.transfers.specs.declared.answers.OptionEntries.{OptionEntries}
+use Rattle.transfers.specs.declared.answers.OptionEntries.the-variants.{Some as someCount, None as noCount}
 use Rattle.transfers.specs.declared.driver.Driver.{Driver}
 use Rattle.transfers.specs.Answers.{nothingArmed}
 use Rattle.transfers.specs.Driver.{fresh}
 use Rattle.transfers.specs.Memory.{memoryFits}
-use Rattle.record.specs.Grammar.{Entry}
+use Rattle.record.specs.Segments.{Element, entry}
 use Rattle.record.specs.Calls.{Call, begin, step, cancel, openPipe, closePipe, pollPipe, interrupt, detect, call}
 use Rattle.record.specs.Armed.{entriesArmed}
-use Rattle.record.specs.Record.{answeredFrom}
-use Rattle.record.specs.Bytes.{headBytes, encodeAll, recordOf}
-use Rattle.record.specs.Writer.{armedInRange, appended, appendIf, appendOf}
+use Rattle.record.specs.Record.{counted, answeredFrom}
+use Rattle.record.specs.Bytes.{headBytes, encodeAll, encodeElements, failedBytes, recordOf}
+use Rattle.record.specs.Writer.{armedInRange, appended, countBytes, toldBytes, appendIf, appendOf}
 use Rattle.record.specs.Kept.{Kept, kept, refused, keptBy, appends, appendsAfter, keptFrom, keptAll}
-use Rattle.record.proofs.Encoding.{encode-append}
+use Rattle.record.proofs.Encoding.{elements-append, elements-entries}
 
 -- Bytes stored from a place on: all up to their end, and all after it.
 seam : (l new : List ℕ) (n : ℕ) → n + length new ≤ length l → length (take n l ++ new) ≡ n + length new
@@ -34,54 +36,69 @@ put-drop : (l new : List ℕ) (n : ℕ) → n + length new ≤ length l → drop
 put-drop l new n h = ap (λ (x : List ℕ). drop (n + length new) x) (sets-eq new l n h) ∙ drop-at (take n l ++ new) (drop (n + length new) l) (n + length new) (seam l new n h)
 
 -- The used bytes of a record are head and entries; past them it is as it was lent (l₀).
-pub record Holds (l₀ l : List ℕ) (n : ℕ) (es : List Entry) : Type 0 where
+pub record Holds (l₀ l : List ℕ) (n : ℕ) (es : List Element) : Type 0 where
   pub inside : n ≤ length l
   pub low : 5 ≤ n
   pub bytes : take n l ≡ recordOf es
   pub rest : drop n l ≡ drop n l₀
 
 -- So it is where the writer was not refused.
-abbrev pub Fine : List ℕ → Kept → List Entry → Type 0
+abbrev pub Fine : List ℕ → Kept → List Element → Type 0
 Fine l₀ refused es = Unit {0}
 Fine l₀ (kept l n) es = Holds l₀ l n es
 
 -- More entries after those there are.
-more : (es x : List Entry) → recordOf es ++ encodeAll x ≡ recordOf (es ++ x)
+more : (es x : List Element) → recordOf es ++ encodeElements x ≡ recordOf (es ++ x)
 unfolding recordOf
-more es x = append-assoc headBytes (encodeAll es) (encodeAll x) ∙ ap (λ (l : List ℕ). headBytes ++ l) (sym (encode-append es x))
+more es x = append-assoc headBytes (encodeElements es) (encodeElements x) ∙ ap (λ (l : List ℕ). headBytes ++ l) (sym (elements-append es x))
+
+-- What a call tells the writer: the entries that it armed, and its count.
+abbrev pub told : List ℕ → Armed → OptionEntries → List Element
+told m a x = map entry (entriesArmed m a) ++ counted x
+
+count-bytes : (x : OptionEntries) → countBytes x ≡ encodeElements (counted x)
+unfolding encodeElements
+count-bytes noCount = refl
+count-bytes (someCount n) = sym (append-nil (failedBytes n))
+
+entries-only : (a : Armed) (m : List ℕ) (n : ℕ) → 5 ≤ n → appended a m n ≡ encodeAll (entriesArmed m a)
+unfolding appended
+entries-only a m n h = rw (ne-eqb n 0 (λ e. omega arith)) refl
 
 -- With a head there, none is written.
-pub no-head : (a : Armed) (m : List ℕ) (n : ℕ) → 5 ≤ n → appended a m n ≡ encodeAll (entriesArmed m a)
-unfolding appended
-no-head a m n h = rw (ne-eqb n 0 (λ e. omega arith)) refl
+pub no-head : (a : Armed) (x : OptionEntries) (m : List ℕ) (n : ℕ) → 5 ≤ n → toldBytes a x m n ≡ encodeElements (told m a x)
+unfolding toldBytes
+no-head a x m n h =
+    ap₂ (λ (u v : List ℕ). u ++ v) (entries-only a m n h ∙ elements-entries (entriesArmed m a)) (count-bytes x)
+    ∙ sym (elements-append (map entry (entriesArmed m a)) (counted x))
 
-grow : (l₀ : List ℕ) (a : Armed) (m l : List ℕ) (n : ℕ) (es : List Entry) → Holds l₀ l n es → n + length (appended a m n) ≤ length l
-    → Holds l₀ (sets l n (appended a m n)) (n + length (appended a m n)) (es ++ entriesArmed m a)
-grow l₀ a m l n es h room =
-    let new = appended a m n in
+grow : (l₀ : List ℕ) (a : Armed) (x : OptionEntries) (m l : List ℕ) (n : ℕ) (es : List Element) → Holds l₀ l n es → n + length (toldBytes a x m n) ≤ length l
+    → Holds l₀ (sets l n (toldBytes a x m n)) (n + length (toldBytes a x m n)) (es ++ told m a x)
+grow l₀ a x m l n es h room =
+    let new = toldBytes a x m n in
     record {
       inside = omega (arith, room, length-sets l n new);
       low = omega (arith, h .low);
-      bytes = put-take l new n room ∙ ap₂ (λ (x y : List ℕ). x ++ y) (h .bytes) (no-head a m n (h .low)) ∙ more es (entriesArmed m a);
-      rest = put-drop l new n room ∙ sym (drop-drop (length new) n l) ∙ ap (λ (x : List ℕ). drop (length new) x) (h .rest) ∙ drop-drop (length new) n l₀;
+      bytes = put-take l new n room ∙ ap₂ (λ (u y : List ℕ). u ++ y) (h .bytes) (no-head a x m n (h .low)) ∙ more es (told m a x);
+      rest = put-drop l new n room ∙ sym (drop-drop (length new) n l) ∙ ap (λ (u : List ℕ). drop (length new) u) (h .rest) ∙ drop-drop (length new) n l₀;
     }
 
 -- One call of the writer.
-appended-fine : (l₀ : List ℕ) (a : Armed) (m : List ℕ) (k : Kept) (es : List Entry) → Fine l₀ k es → Fine l₀ (appends a m k) (es ++ entriesArmed m a)
+appended-fine : (l₀ : List ℕ) (a : Armed) (x : OptionEntries) (m : List ℕ) (k : Kept) (es : List Element) → Fine l₀ k es → Fine l₀ (appends a x m k) (es ++ told m a x)
 unfolding appendOf
-appended-fine l₀ a m refused es h = tt
-appended-fine l₀ a m (kept l n) es h = go (memoryFits m) (armedInRange a) (leb (n + length (appended a m n)) (length l)) refl
+appended-fine l₀ a x m refused es h = tt
+appended-fine l₀ a x m (kept l n) es h = go (memoryFits m) (armedInRange a) (leb (n + length (toldBytes a x m n)) (length l)) refl
   where
-    go : (b c r : Bool) → leb (n + length (appended a m n)) (length l) ≡ r
-        → Fine l₀ (keptBy (appendIf b c r (appended a m n) l n .answer) (appendIf b c r (appended a m n) l n .bytes)) (es ++ entriesArmed m a)
+    go : (b c r : Bool) → leb (n + length (toldBytes a x m n)) (length l) ≡ r
+        → Fine l₀ (keptBy (appendIf b c r (toldBytes a x m n) l n .answer) (appendIf b c r (toldBytes a x m n) l n .bytes)) (es ++ told m a x)
     go false c r q = tt
     go true false r q = tt
     go true true false q = tt
-    go true true true q = grow l₀ a m l n es h (leb-true (n + length (appended a m n)) (length l) q)
+    go true true true q = grow l₀ a x m l n es h (leb-true (n + length (toldBytes a x m n)) (length l) q)
 
 -- The first call leaves the head alone.
-first : (m l : List ℕ) → Fine l (appends nothingArmed m (kept l 0)) []
-unfolding appendOf appended recordOf encodeAll
+first : (m l : List ℕ) → Fine l (appends nothingArmed noCount m (kept l 0)) []
+unfolding appendOf toldBytes appended recordOf encodeAll encodeElements
 first m l = go (memoryFits m) (armedInRange nothingArmed) (leb 5 (length l)) refl
   where
     go : (b c r : Bool) → leb 5 (length l) ≡ r → Fine l (keptBy (appendIf b c r headBytes l 0 .answer) (appendIf b c r headBytes l 0 .bytes)) []
@@ -92,26 +109,31 @@ first m l = go (memoryFits m) (armedInRange nothingArmed) (leb 5 (length l)) ref
         let room = leb-true 5 (length l) q in
         record { inside = omega (arith, room, length-sets l 0 headBytes); low = omega arith; bytes = put-take l headBytes 0 room; rest = put-drop l headBytes 0 room }
 
--- One call of the driver: what it answers that it armed is appended.
-one : (l₀ : List ℕ) (k : Kept) (es : List Entry) (d : Driver) (c : Call) → Fine l₀ k es → Fine l₀ (appendsAfter c (call d c) k) (es ++ entriesArmed (call d c .memory) (call d c .armed))
+-- One call of the driver: what it answers that it armed, and its count, are appended.
+one : (l₀ m₀ : List ℕ) (k : Kept) (es : List Element) (d : Driver) (c : Call) → Fine l₀ k es
+    → Fine l₀ (appendsAfter m₀ c (call d c) k) (es ++ told (call d c .memory) (call d c .armed) (call d c .failed))
 unfolding call
-one l₀ k es d (begin x buf m log) h = let o = call d (begin x buf m log) in appended-fine l₀ (o .armed) (o .memory) k es h
-one l₀ k es d (step b y buf m log) h = let o = call d (step b y buf m log) in appended-fine l₀ (o .armed) (o .memory) k es h
-one l₀ k es d cancel h = subst (Fine l₀ k) (sym (append-nil es)) h
-one l₀ k es d (openPipe a x e p i log) h = subst (Fine l₀ k) (sym (append-nil es)) h
-one l₀ k es d (closePipe n) h = subst (Fine l₀ k) (sym (append-nil es)) h
-one l₀ k es d (pollPipe n y m log) h = subst (Fine l₀ k) (sym (append-nil es)) h
-one l₀ k es d (interrupt ints status log) h = subst (Fine l₀ k) (sym (append-nil es)) h
-one l₀ k es d (detect sie log) h = subst (Fine l₀ k) (sym (append-nil es)) h
+one l₀ m₀ k es d (begin x buf m log) h = let o = call d (begin x buf m log) in appended-fine l₀ (o .armed) (o .failed) (o .memory) k es h
+one l₀ m₀ k es d (step b y buf m log) h = let o = call d (step b y buf m log) in appended-fine l₀ (o .armed) (o .failed) (o .memory) k es h
+one l₀ m₀ k es d cancel h = let o = call d cancel in appended-fine l₀ (o .armed) (o .failed) m₀ k es h
+one l₀ m₀ k es d (openPipe a x e p i log) h = subst (Fine l₀ k) (sym (append-nil es)) h
+one l₀ m₀ k es d (closePipe n) h = subst (Fine l₀ k) (sym (append-nil es)) h
+one l₀ m₀ k es d (pollPipe n y m log) h = subst (Fine l₀ k) (sym (append-nil es)) h
+one l₀ m₀ k es d (interrupt ints status log) h = subst (Fine l₀ k) (sym (append-nil es)) h
+one l₀ m₀ k es d (detect sie log) h = subst (Fine l₀ k) (sym (append-nil es)) h
 
-along : (l₀ : List ℕ) (cs : List Call) (k : Kept) (es : List Entry) (d : Driver) → Fine l₀ k es → Fine l₀ (keptFrom k d cs) (es ++ answeredFrom d cs)
+along : (l₀ : List ℕ) (ms : ℕ → List ℕ) (cs : List Call) (k : Kept) (es : List Element) (d : Driver) → Fine l₀ k es → Fine l₀ (keptFrom ms k d cs) (es ++ answeredFrom d cs)
 unfolding keptFrom answeredFrom
-along l₀ [] k es d h = subst (Fine l₀ k) (sym (append-nil es)) h
-along l₀ (c ∷ cs) k es d h =
+along l₀ ms [] k es d h = subst (Fine l₀ k) (sym (append-nil es)) h
+along l₀ ms (c ∷ cs) k es d h =
     let o = call d c in
-    let x = entriesArmed (o .memory) (o .armed) in
-    subst (Fine l₀ (keptFrom (appendsAfter c o k) (o .next) cs)) (append-assoc es x (answeredFrom (o .next) cs)) (along l₀ cs (appendsAfter c o k) (es ++ x) (o .next) (one l₀ k es d c h))
+    let a = map entry (entriesArmed (o .memory) (o .armed)) in
+    let b = counted (o .failed) in
+    let r = answeredFrom (o .next) cs in
+    let later : ℕ → List ℕ = λ i. ms (suc i) in
+    subst (Fine l₀ (keptFrom later (appendsAfter (ms 0) c o k) (o .next) cs)) (append-assoc es (a ++ b) r ∙ ap (λ (v : List Element). es ++ v) (append-assoc a b r))
+    (along l₀ later cs (appendsAfter (ms 0) c o k) (es ++ (a ++ b)) (o .next) (one l₀ (ms 0) k es d c h))
 
 -- The writer's calls over a list of driver calls.
-pub all-fine : (l m : List ℕ) (cs : List Call) → Fine l (keptAll l m cs) (answeredFrom fresh cs)
-all-fine l m cs = along l cs (appends nothingArmed m (kept l 0)) [] fresh (first m l)
+pub all-fine : (l : List ℕ) (ms : ℕ → List ℕ) (cs : List Call) → Fine l (keptAll l ms cs) (answeredFrom fresh cs)
+all-fine l ms cs = along l (λ i. ms (suc i)) cs (appends nothingArmed noCount (ms 0) (kept l 0)) [] fresh (first (ms 0) l)

@@ -9,10 +9,10 @@ use lib.ListN.{length, getD}
 use lib.Dec.{eqb, leb}
 use borrow.Author.Tests.{eqb-true, leb-true}
 use Rattle.pool.proofs.Cases.{byCases}
-use Rattle.record.specs.Reader.{lookSetup, fieldsFit, lookOut, look}
+use Rattle.record.specs.Reader.{lookSetup, fieldsFit, lookOut, lookFailed, look}
 use Rattle.record.specs.declared.look.OutHead.{OutHead}
 use Rattle.record.specs.declared.look.Look.{Look}
-use Rattle.record.specs.declared.look.Look.the-variants.{Setup, Out, Bad, End}
+use Rattle.record.specs.declared.look.Look.the-variants.{Setup, Out, Failed, Bad, End}
 use Rattle.record.proofs.Both.{and-left, and-right}
 
 -- The fields of an OUT entry at the front.
@@ -34,6 +34,7 @@ pub data Seen (l : List ℕ) (y : Look) : Type 0 where
   seenBad : y ≡ Bad → Seen l y
   seenSetup : getD l 0 0 ≡ 0x53 → 10 ≤ length l → getD l 1 0 ≤ 127 → y ≡ Setup (getD l 1 0) (getD l 8 0 + getD l 9 0 * 256) → Seen l y
   seenOut : OutFits l → y ≡ Out (headAt l) → Seen l y
+  seenFailed : getD l 0 0 ≡ 0x58 → 5 ≤ length l → y ≡ Failed ((getD l 1 0 + getD l 2 0 * 256) + (getD l 3 0 + getD l 4 0 * 256) * 65536) → Seen l y
 
 fields : (l : List ℕ) → getD l 0 0 ≡ 0x4F → fieldsFit (getD l 1 0) (getD l 2 0) (getD l 3 0) (getD l 4 0) (getD l 5 0) ≡ true → 6 + getD l 5 0 ≤ length l → OutFits l
 unfolding fieldsFit
@@ -74,6 +75,12 @@ see-out l k = byCases (leb 6 (length l))
     (λ (q : fieldsFit (getD l 1 0) (getD l 2 0) (getD l 3 0) (getD l 4 0) (getD l 5 0) ≡ false). seenBad (rw (p, q))))
     (λ (p : leb 6 (length l) ≡ false). seenBad (rw p))
 
+see-failed : (l : List ℕ) → getD l 0 0 ≡ 0x58 → Seen l (lookFailed l)
+unfolding lookFailed
+see-failed l k = byCases (leb 5 (length l))
+    (λ (p : leb 5 (length l) ≡ true). seenFailed k (leb-true 5 (length l) p) (rw p))
+    (λ (p : leb 5 (length l) ≡ false). seenBad (rw p))
+
 pub seen : (l : List ℕ) → Seen l (look l)
 unfolding look
 seen l = byCases (eqb (length l) 0)
@@ -82,7 +89,9 @@ seen l = byCases (eqb (length l) 0)
     (λ (k : eqb (getD l 0 0) 0x53 ≡ true). rw (e, k) (see-setup l (eqb-true (getD l 0 0) 0x53 k)))
     (λ (k : eqb (getD l 0 0) 0x53 ≡ false). byCases (eqb (getD l 0 0) 0x4F)
     (λ (j : eqb (getD l 0 0) 0x4F ≡ true). rw (e, k, j) (see-out l (eqb-true (getD l 0 0) 0x4F j)))
-    (λ (j : eqb (getD l 0 0) 0x4F ≡ false). rw (e, k, j) (seenBad refl))))
+    (λ (j : eqb (getD l 0 0) 0x4F ≡ false). byCases (eqb (getD l 0 0) 0x58)
+    (λ (i : eqb (getD l 0 0) 0x58 ≡ true). rw (e, k, j, i) (see-failed l (eqb-true (getD l 0 0) 0x58 i)))
+    (λ (i : eqb (getD l 0 0) 0x58 ≡ false). rw (e, k, j, i) (seenBad refl)))))
 
 -- A SETUP has its ten bytes, an OUT packet its own.
 pub setup-inside : (l : List ℕ) (a w : ℕ) → look l ≡ Setup a w → 10 ≤ length l
@@ -93,6 +102,7 @@ setup-inside l a w e = go (seen l)
     go (seenBad q) = absurd (let z : _≡_ {A = ℕ} 0 1 = cc in omega arith)
     go (seenSetup k h i q) = h
     go (seenOut h q) = absurd (let z : _≡_ {A = ℕ} 0 1 = cc in omega arith)
+    go (seenFailed k h q) = absurd (let z : _≡_ {A = ℕ} 0 1 = cc in omega arith)
 
 pub out-inside : (l : List ℕ) (x : OutHead) → look l ≡ Out x → 6 + x .length ≤ length l
 out-inside l x e = go (seen l)
@@ -101,4 +111,15 @@ out-inside l x e = go (seen l)
     go (seenEnd h q) = absurd (let z : _≡_ {A = ℕ} 0 1 = cc in omega arith)
     go (seenBad q) = absurd (let z : _≡_ {A = ℕ} 0 1 = cc in omega arith)
     go (seenSetup k h i q) = absurd (let z : _≡_ {A = ℕ} 0 1 = cc in omega arith)
+    go (seenFailed k h q) = absurd (let z : _≡_ {A = ℕ} 0 1 = cc in omega arith)
     go (seenOut h q) = let z : x ≡ headAt l = cc in let w = h .whole in let v : x .length ≡ getD l 5 0 = ap (λ (y : OutHead). y .length) z in omega arith
+
+pub failed-inside : (l : List ℕ) (m : ℕ) → look l ≡ Failed m → 5 ≤ length l
+failed-inside l m e = go (seen l)
+  where
+    go : Seen l (look l) → 5 ≤ length l
+    go (seenEnd h q) = absurd (let z : _≡_ {A = ℕ} 0 1 = cc in omega arith)
+    go (seenBad q) = absurd (let z : _≡_ {A = ℕ} 0 1 = cc in omega arith)
+    go (seenSetup k h i q) = absurd (let z : _≡_ {A = ℕ} 0 1 = cc in omega arith)
+    go (seenOut h q) = absurd (let z : _≡_ {A = ℕ} 0 1 = cc in omega arith)
+    go (seenFailed k h q) = h

@@ -1,5 +1,5 @@
 -- A transfer's entries are a part of the grammar. Assumes nothing.
-use mathlib.Core.Path.{_≡_, refl, sym, ap, ap₂, _∙_, subst}
+use mathlib.Core.Path.{_≡_, refl, sym, ap, _∙_, subst}
 use mathlib.Core.Logic.{inl, inr}
 use mathlib.Core.Bool.{Bool, true, false, not}
 use mathlib.Core.List.{List, [], _∷_, _++_, map}
@@ -19,12 +19,12 @@ use Rattle.transfers.specs.declared.host_controller.TransferExtras.{TransferExt
 use Rattle.transfers.specs.declared.wire.SetupPacket.{SetupPacket}
 use Rattle.transfers.specs.declared.wire.Direction.the-variants.{In, Out}
 use Rattle.record.specs.Grammar as G
-use Rattle.record.specs.Grammar.{lengthIn, FourBytes, Bytes, Entry, out, group, bytes, AllOf, Sizes, Part, entries, Fits, AllFit, written, Item, bulkItem, controlItem, item}
+use Rattle.record.specs.Grammar.{lengthIn, FourBytes, Bytes, Entry, out, group, bytes, AllOf, Sizes, Part, entries, Fits, bulkItem, controlItem, item}
 use Rattle.record.specs.Calls.{Begin, control, bulk}
 use Rattle.record.specs.Armed.{lowBytes, highBytes, setupEntry}
-use Rattle.record.specs.Record.{TypedSetup, Begun, outEntry, armedBy, itemOf, listed}
+use Rattle.record.specs.Asked.{TypedSetup, Begun, outEntry, armedBy, itemOf, listed}
 use Rattle.record.proofs.Cuts.{cutAt, cut-is, cut-more, cut-last}
-use Rattle.record.proofs.Begins.{Checked, Proper, AllProper}
+use Rattle.record.proofs.Begins.{Checked, Proper}
 
 -- The unmarked packets' bytes and the marked one's.
 pub record Halves (t : TransferType) (p : ℕ) (l : List ℕ) : Type 0 where
@@ -97,10 +97,10 @@ bytes-take (suc n) (x ∷ l) h = (h .0, bytes-take n l (h .1))
 
 -- ---- SETUP's bytes
 
-low-are : (s : SetupPacket) → TypedSetup s → FourBytes (lowBytes s)
+pub low-are : (s : SetupPacket) → TypedSetup s → FourBytes (lowBytes s)
 low-are s h = let a = h .2 in (h .0, h .1, omega arith, omega arith)
 
-high-are : (s : SetupPacket) → TypedSetup s → FourBytes (highBytes s)
+pub high-are : (s : SetupPacket) → TypedSetup s → FourBytes (highBytes s)
 high-are s h = let a = h .3 in let b = h .4 in (omega arith, omega arith, omega arith, omega arith)
 
 pub length-in : (s : SetupPacket) → lengthIn (highBytes s) ≡ s .wLength
@@ -183,29 +183,14 @@ abbrev pub armedByAll : List Begun → List Entry
 armedByAll [] = []
 armedByAll (g ∷ gs) = armedBy g ++ armedByAll gs
 
-pub record PartsOf (gs : List Begun) : Type 0 where
-  pub parts : List Part
-  pub fit : AllFit parts
-  pub written-is : written parts ≡ armedByAll gs
-  pub items : map item parts ≡ map itemOf (listed gs)
-  pub packets : map entries parts ≡ map armedBy (listed gs)
+-- A transfer gives a part, or, a bulk IN, nothing.
+pub data Shape (g : Begun) : Type 0 where
+  sends : PartOf g → ((gs : List Begun) → listed (g ∷ gs) ≡ g ∷ listed gs) → Shape g
+  silent : armedBy g ≡ [] → ((gs : List Begun) → listed (g ∷ gs) ≡ listed gs) → Shape g
 
-with-part : (g : Begun) (gs : List Begun) → listed (g ∷ gs) ≡ g ∷ listed gs → PartOf g → PartsOf gs → PartsOf (g ∷ gs)
-with-part g gs e h k = record {
-  parts = h .part ∷ k .parts;
-  fit = (h .fits, k .fit);
-  written-is = ap₂ {C = List Entry} _++_ (h .entries-are) (k .written-is);
-  items = rw e (ap₂ {C = List Item} _∷_ (h .item-is) (k .items));
-  packets = rw e (ap₂ {C = List (List Entry)} _∷_ (h .entries-are) (k .packets));
-}
-
-add-part : (x : Begin) (buf : List ℕ) (gs : List Begun) → Proper x buf → PartsOf gs → PartsOf (record { fields = x; buffer = buf } ∷ gs)
-add-part (control a x p s phaseIn) buf gs h k = with-part (asked a x p s buf phaseIn) gs refl (empty-part a x p s buf phaseIn (h .checked) refl refl) k
-add-part (control a x p s phaseOut) buf gs h k = with-part (asked a x p s buf phaseOut) gs refl (out-or-empty a x p s buf (s .wLength) (h .checked) (h .are) (h .room) refl) k
-add-part (control a x p s phaseNone) buf gs h k = with-part (asked a x p s buf phaseNone) gs refl (none-part a x p s buf (h .checked)) k
-add-part (bulk Out a e p t b) buf gs h k = with-part (record { fields = bulk Out a e p t b; buffer = buf }) gs refl (bulk-part a e p t b buf (h .checked) (h .are)) k
-add-part (bulk In a e p t b) buf gs h k = record { parts = k .parts; fit = k .fit; written-is = k .written-is; items = k .items; packets = k .packets }
-
-pub parts-of : (gs : List Begun) → AllProper gs → PartsOf gs
-parts-of [] h = record { parts = []; fit = tt; written-is = refl; items = refl; packets = refl }
-parts-of (g ∷ gs) h = add-part (g .fields) (g .buffer) gs (h .0) (parts-of gs (h .1))
+pub shape : (x : Begin) (buf : List ℕ) → Proper x buf → Shape (record { fields = x; buffer = buf })
+shape (control a x p s phaseIn) buf h = sends (empty-part a x p s buf phaseIn (h .checked) refl refl) (λ gs. refl)
+shape (control a x p s phaseOut) buf h = sends (out-or-empty a x p s buf (s .wLength) (h .checked) (h .are) (h .room) refl) (λ gs. refl)
+shape (control a x p s phaseNone) buf h = sends (none-part a x p s buf (h .checked)) (λ gs. refl)
+shape (bulk Out a e p t b) buf h = sends (bulk-part a e p t b buf (h .checked) (h .are)) (λ gs. refl)
+shape (bulk In a e p t b) buf h = silent refl (λ gs. refl)

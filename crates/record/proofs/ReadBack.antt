@@ -3,37 +3,46 @@
 use mathlib.Core.Path.{_≡_, refl, ap, sym, subst, _∙_}
 use mathlib.Core.List.{List}
 use Prim.Native.Nat.{ℕ}
-use lib.ListN.{length, length-map}
+use lib.ListN.{length, drop, length-map}
+use mathlib.Core.Bool.{true, true≢false}
 use Rattle.transfers.specs.Driver.{fresh}
 use Rattle.record.specs.Grammar.{item}
+use Rattle.record.specs.Segments.{Element, finished}
 use Rattle.record.specs.Wire.{File}
 use Rattle.record.specs.Calls.{Call}
-use Rattle.record.specs.Record.{AllTyped, recordFrom, answeredFrom, begunFrom, listed, itemOf}
-use Rattle.record.specs.Bytes.{encodeAll, recordOf}
+use Rattle.record.specs.Asked.{AllTyped, listed, itemOf}
+use Rattle.record.specs.Record.{answeredFrom}
+use Rattle.record.specs.Fates.{endedOf}
+use Rattle.record.specs.Bytes.{encodeElements, recordOf}
 use Rattle.record.specs.Kept.{Kept, kept, keptAll}
-use Rattle.record.specs.Items.{itemsFrom}
-use Rattle.record.specs.Term3.{Premises, Written, ReadBack}
+use Rattle.record.specs.Verdict.{recordIn}
+use Rattle.record.specs.Term3.{wireRecord, fates, Premises, Written, ReadBack}
 use Rattle.record.specs.declared.reader.CheckAnswer.the-variants.{Transfers}
-use Rattle.record.proofs.Answered.{answered}
-use Rattle.record.proofs.Recorded.{recorded}
+use Rattle.record.proofs.Counted.{answered}
+use Rattle.record.proofs.Failing.{recorded}
 use Rattle.record.proofs.Keeping.{Holds, Fine, all-fine}
 use Rattle.record.proofs.Verdicts.{accepts}
-use Rattle.record.proofs.Handing.{first-entry, all-handed}
+use Rattle.record.proofs.Handing.{drop-record, handed-out}
 
-pub written : (f : File) (cs : List Call) → AllTyped cs → (l m l′ : List ℕ) (n : ℕ) → keptAll l m cs ≡ kept l′ n → Written f cs l l′ n
-written f cs t l m l′ n e =
-    let h : Holds l l′ n (answeredFrom fresh cs) = subst (λ (k : Kept). Fine l k (answeredFrom fresh cs)) e (all-fine l m cs) in
+pub written : (f : File) (cs : List Call) → AllTyped cs → (l : List ℕ) (ms : ℕ → List ℕ) (l′ : List ℕ) (n : ℕ) → keptAll l ms cs ≡ kept l′ n → Written f cs l l′ n
+written f cs t l ms l′ n e =
+    let h : Holds l l′ n (answeredFrom fresh cs) = subst (λ (k : Kept). Fine l k (answeredFrom fresh cs)) e (all-fine l ms cs) in
     record { bytes = h .bytes ∙ ap recordOf (sym (answered f cs t)); rest = h .rest }
 
-pub read : (f : File) (cs : List Call) → AllTyped cs → Premises f cs → ReadBack f cs (recordOf (recordFrom f fresh cs))
+-- The writer's version is 2.
+same-record : (ms : List Element) → recordOf ms ≡ recordIn true ms
+unfolding recordOf recordIn
+same-record ms = refl
+
+pub read : (f : File) (cs : List Call) → AllTyped cs → Premises f cs → ReadBack f cs (recordOf (wireRecord f cs))
 read f cs t p =
     let g = recorded f cs t p in
     let r = g .reading in
-    let es = recordFrom f fresh cs in
-    let z : length (r .parts) ≡ length (listed (begunFrom fresh cs)) =
-    sym (length-map (r .parts) item) ∙ ap length (g .transfers) ∙ length-map (listed (begunFrom fresh cs)) itemOf in
+    let ms = wireRecord f cs in
+    let es = listed (endedOf (fates cs)) in
+    let n : length (finished (r .segments) (r .last)) ≡ length es = sym (length-map (finished (r .segments) (r .last)) item) ∙ ap length (g .transfers) ∙ length-map es itemOf in
     record {
       recorded = g;
-      count = accepts (recordOf es) es refl r ∙ ap Transfers z;
-      items = ap (λ (k : ℕ). itemsFrom k (recordOf es) 5) (sym z) ∙ all-handed (r .parts) (recordOf es) 5 (r .fit) (first-entry es ∙ ap encodeAll (sym (r .is)));
+      count = accepts (recordOf ms) true ms (same-record ms) (record { reading = r; plain = λ e. absurd (true≢false e) }) ∙ ap Transfers n;
+      items = handed-out (r .segments) (r .last) (recordOf ms) 5 (r .segments-fit) (r .last-fit) (ap (λ (l : List ℕ). drop 5 l) (same-record ms) ∙ drop-record true ms ∙ ap encodeElements (sym (r .is)));
     }

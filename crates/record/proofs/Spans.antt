@@ -7,12 +7,12 @@ use Prim.Native.Nat.{ℕ, zero, suc, _+_, _≤_, _<_}
 use native.Mathlib.Omega.{arith}
 use lib.ListN.{length, drop, length-drop}
 use Rattle.record.specs.Reader.{look}
-use Rattle.record.specs.Items.{groupLook, groupOf, groupFrom, groupAt}
+use Rattle.record.specs.Items.{groupLook, groupOf, groupFrom, groupAt, failedLook, failedAt}
 use Rattle.record.specs.declared.look.Look.{Look}
-use Rattle.record.specs.declared.look.Look.the-variants.{Setup, Out, Bad, End}
+use Rattle.record.specs.declared.look.Look.the-variants.{Setup, Out, Failed, Bad, End}
 use Rattle.record.specs.declared.items.Span.{Span}
 use Rattle.record.specs.declared.items.SpanTurn.the-variants.{More, Ended}
-use Rattle.record.proofs.Looking.{out-inside}
+use Rattle.record.proofs.Looking.{out-inside, failed-inside}
 
 -- A packet goes on by at least one byte, within the bytes.
 pub record Further (s : List ℕ) (p q : Span) : Type 0 where
@@ -32,6 +32,7 @@ packet-further s p q h e = go (look (drop (p .at) s)) refl e
     go End k g = absurd (let z : _≡_ {A = ℕ} 0 1 = cc in omega arith)
     go Bad k g = absurd (let z : _≡_ {A = ℕ} 0 1 = cc in omega arith)
     go (Setup a w) k g = absurd (let z : _≡_ {A = ℕ} 0 1 = cc in omega arith)
+    go (Failed m) k g = absurd (let z : _≡_ {A = ℕ} 0 1 = cc in omega arith)
     go (Out x) k g =
         let u = out-inside (drop (p .at) s) x k in
         let v = length-drop (p .at) s in
@@ -73,3 +74,15 @@ walk-on s at p q r e = go (r .fuel) (r .same) (r .enough) (packet-further s p q 
       inside = o .inside;
       few = o .few (r .few);
     }
+
+-- A count has its five bytes.
+pub failed-room : (s : List ℕ) (at : ℕ) → failedAt s at ≡ true → at + 5 ≤ length s
+unfolding failedAt
+failed-room s at e = go (look (drop at s)) refl e
+  where
+    go : (y : Look) → look (drop at s) ≡ y → failedLook y ≡ true → at + 5 ≤ length s
+    go (Failed m) k g = let u = failed-inside (drop at s) m k in let v = length-drop at s in omega arith
+    go (Setup a w) k g = absurd (let z : _≡_ {A = ℕ} 0 1 = cc in omega arith)
+    go (Out x) k g = absurd (let z : _≡_ {A = ℕ} 0 1 = cc in omega arith)
+    go Bad k g = absurd (let z : _≡_ {A = ℕ} 0 1 = cc in omega arith)
+    go End k g = absurd (let z : _≡_ {A = ℕ} 0 1 = cc in omega arith)

@@ -25,8 +25,8 @@ use Rattle.record.specs.Grammar.{four, Entry, setup}
 use Rattle.record.specs.Wire.{File, performs, Event, events, entryOf, wire, wordBytes}
 use Rattle.record.specs.Calls.{Begin}
 use Rattle.record.specs.Armed.{lowBytes, highBytes, setupEntry}
-use Rattle.record.specs.Record.{TypedSetup, outEntry}
-use Rattle.record.specs.Premises.{Watch, unarmed, marks}
+use Rattle.record.specs.Asked.{TypedSetup, outEntry}
+use Rattle.record.specs.Told.{Watch, unarmed, marks}
 use Rattle.record.proofs.Logs.{Silent, setup-event, setup-addr}
 use Rattle.record.proofs.Stages.{startLog, heads, in-two, out-two, armEvents}
 use Rattle.record.proofs.Arming.{Packets, evOf, Over, over-marks, ends-after, two-alike, Two, two}

@@ -6,6 +6,7 @@ use Prim.Native.Nat.{ℕ, suc, _≤_}
 use native.Mathlib.Omega.{arith}
 use lib.ListN.{length, take}
 use lib.Dec.{eqb, ltb}
+use lib.Bits.{bitAnd}
 use borrow.Author.Tests.{ltb-false}
 use Rattle.cutting.specs.declared.transfer_type.TransferType.the-variants.{FixedSize}
 use Rattle.cutting.specs.declared.depacketiser.InDepacketiser.{InDepacketiser}
@@ -18,12 +19,13 @@ use Rattle.transfers.specs.declared.host_controller.UsbError.the-variants.{Buff
 use Rattle.transfers.specs.declared.host_controller.DataPhase.the-variants.{In as phaseIn, Out as phaseOut, None as phaseNone}
 use Rattle.transfers.specs.declared.wire.Direction.the-variants.{In, Out}
 use Rattle.transfers.specs.declared.refusal.Refusal.{Refusal}
-use Rattle.transfers.specs.declared.refusal.Refusal.the-variants.{LentMemory, State}
+use Rattle.transfers.specs.declared.refusal.Refusal.the-variants.{Usb, LentMemory, State}
 use Rattle.transfers.specs.declared.answers.StepAnswer.the-variants.{Done}
 use Rattle.transfers.specs.declared.answers.Armed.{Armed as ArmedAnswer}
 use Rattle.transfers.specs.declared.sample.Sample.{Sample}
 use Rattle.transfers.specs.declared.sample.Poll.{Poll}
 use Rattle.transfers.specs.declared.sample.Poll.the-variants.{Pending, Ready}
+use Rattle.transfers.specs.declared.sample.Found.{Found}
 use Rattle.transfers.specs.declared.sample.Found.the-variants.{Complete, Failed, Neither}
 use Rattle.transfers.specs.declared.driver.Driver.{Driver}
 use Rattle.transfers.specs.declared.driver.Transfer.{Transfer}
@@ -36,7 +38,9 @@ use Rattle.transfers.specs.declared.driver.InStage.{InStage}
 use Rattle.transfers.specs.declared.driver.OutStage.{OutStage}
 use Rattle.transfers.specs.Log.{Write}
 use Rattle.transfers.specs.Memory.{lentFits}
-use Rattle.transfers.specs.Sample.{classify}
+use Rattle.transfers.specs.Registers.{bit}
+use Rattle.transfers.specs.Masks.{readyMask}
+use Rattle.transfers.specs.Sample.{Error, errors, firstOf, classify}
 use Rattle.transfers.specs.Writes.{enableWrites, polled, awaits, quiets, completes}
 use Rattle.transfers.specs.Arming.{mayArm, inArmTwo, outArmTwo}
 use Rattle.transfers.specs.Answers.{nothingArmed, outsArmed}
@@ -44,18 +48,55 @@ use Rattle.transfers.specs.State.{endpointOf, firstPid, targetOf, stageLength}
 use Rattle.transfers.specs.Retiring.{InRetiring, inRetireOne}
 use Rattle.transfers.specs.Outcome.{Outcome, after, flipped, ended, failed as fails, waits, startIn, startOut, entersIn, entersOut}
 use Rattle.transfers.specs.Step.{setupDone, setupStep, inPackets, inReceived, inDone, inSecondDone, inFirstDone, inComplete, inRearm, inSecondMoved, inFirstMoved, inMove, inStep, outPackets, outRetireTwo, outDone, outComplete, outMove, outStep, lent, keeping, polls, acts}
+use Rattle.transfers.specs.Entries.{ends}
 use Rattle.transfers.specs.Calls.{refuses, stepIf, mayStep, stepLent, stepOf}
 use Rattle.transfers.proofs.OpenPipes.{lent-sizes}
 use Rattle.record.specs.Grammar.{Entry}
 use Rattle.record.specs.Wire.{File, performs, events, wire}
 use Rattle.record.specs.Calls.{Begin, control, bulk, step, steps}
-use Rattle.record.specs.Premises.{Live, none, live, Watch, unarmed, taken, seen, marks, isComplete, finds, sendsNext, ends, LentIts, TakenIf, StepGood}
+use Rattle.record.specs.Told.{Live, none, live, Watch, unarmed, taken, seen, marks, isComplete, finds}
+use Rattle.record.specs.Premises.{sendsNext, LentIts, TakenIf, StepGood}
 use Rattle.record.proofs.Logs.{Silent, silent-enable}
 use Rattle.record.proofs.Stages.{between, in-two, out-two, armEvents}
 use Rattle.record.proofs.Arming.{Packets, Over, Two, two, two-alike}
 use Rattle.record.proofs.Begins.{addressOf, sizeOf, kindOf, requestOf, Checked, Room}
 use Rattle.record.proofs.Inv.{entriesOf, dueAfter, InLegal, OutLegal, shown-file, Sending, StageInv, BusyInv, Inv, RoomOf, Splits, Kept, wire-none, same-due, over-seen, stage-kept, inv-kept}
 use Rattle.record.proofs.Starting.{counters-back, movedTo, arming, start-out, start-in}
+
+-- ---- an error that a sample shows ends the transfer
+
+abbrev Fatal : Found → Type 0
+Fatal Complete = Unit {0}
+Fatal (Failed e) = ends (Usb e) ≡ true
+Fatal Neither = Unit {0}
+
+abbrev FatalPoll : Poll → Type 0
+FatalPoll Pending = Unit {0}
+FatalPoll (Ready f) = Fatal f
+
+abbrev AllFatal : List Error → Type 0
+AllFatal [] = Unit {0}
+AllFatal (e ∷ es) = (ends (Usb (e .is)) ≡ true) × AllFatal es
+
+first-fatal : (w : ℕ) (es : List Error) → AllFatal es → Fatal (firstOf w es)
+first-fatal w [] h = tt
+first-fatal w (e ∷ es) h = by (bit (e .place) w) (first-fatal w es (h .1))
+  where
+    by : (v : Bool) → Fatal (firstOf w es) → Fatal (cond v (Failed (e .is)) (firstOf w es))
+    by true k = h .0
+    by false k = k
+
+poll-fatal : (status intr : ℕ) → FatalPoll (classify status intr)
+unfolding classify
+poll-fatal status intr = by (eqb (bitAnd intr readyMask) 0) (bit 18 status)
+  where
+    by : (v c : Bool) → FatalPoll (cond v Pending (Ready (cond c Complete (firstOf status errors))))
+    by true c = tt
+    by false true = tt
+    by false false = first-fatal status errors (refl, (refl, (refl, (refl, (refl, (refl, tt))))))
+
+pub found-ends : (y : Sample) (e : UsbError) → classify (y .status) (y .intr) ≡ Ready (Failed e) → ends (Usb e) ≡ true
+found-ends y e q = subst FatalPoll q (poll-fatal (y .status) (y .intr))
 
 -- ---- the writes of a step before it starts anything
 
@@ -126,9 +167,14 @@ module _ (d : Driver) (b : Bool) (y : Sample) (now m log : List ℕ) (n : ℕ) (
   -- ---- the four ways in which a step ends
 
   -- A refusal that ends the transfer.
-  ok-failed : (x : Begin) (buf : List ℕ) (rest : List Entry) (ws : List Write) (e : UsbError) (bf : List ℕ) → Silent (ws ++ [])
+  ok-failed : (x : Begin) (buf : List ℕ) (rest : List Entry) (ws : List Write) (e : UsbError) (bf : List ℕ) → ends (Usb e) ≡ true → Silent (ws ++ [])
       → Ok x buf rest (after ws (fails (requestOf x buf) e m bf))
-  ok-failed x buf rest ws e bf s h = record { rest′ = []; inv = refl; split = wire-none f (ws ++ []) m (s .are f); room = λ q r. absurd (true≢false q) }
+  ok-failed x buf rest ws e bf k s h = record {
+    rest′ = [];
+    inv = subst (λ (v : Bool). Inv (cond v none (live x buf)) n (marks (seen w y) (events f (ws ++ []))) (performs f (ws ++ [])) Idle []) (sym k) refl;
+    split = subst (λ (v : Bool). Splits v (rest ++ []) (wire f (ws ++ []) m) []) (sym k) (wire-none f (ws ++ []) m (s .are f));
+    room = λ q r. absurd (true≢false (sym k ∙ q));
+  }
 
   -- The end with a count: nothing is due.
   ok-done : (x : Begin) (buf : List ℕ) (rest : List Entry) (ws : List Write) (k : ℕ) (t : Bool) (bf : List ℕ) → Silent (ws ++ []) → rest ≡ [] → Room x buf
@@ -195,13 +241,13 @@ module _ (d : Driver) (b : Bool) (y : Sample) (now m log : List ℕ) (n : ℕ) (
   setup-done (control a z p s phaseIn) buf ck rest e full i = by (ltb (length buf) (s .wLength))
     where
       by : (v : Bool) → Ok (control a z p s phaseIn) buf rest (after polledOnly (setupDone phaseIn v (requestOf (control a z p s phaseIn) buf) (s .wLength) now m))
-      by true = ok-failed (control a z p s phaseIn) buf rest polledOnly BufferTooSmall now silent-polled
+      by true = ok-failed (control a z p s phaseIn) buf rest polledOnly BufferTooSmall now refl silent-polled
       by false = λ h. enters-in (control a z p s phaseIn) buf ck rest polledOnly false (s .wLength) now silent-polled e (ap suc (i .1)) (i .2)
   setup-done (control a z p s phaseOut) buf ck rest e full i = by (ltb (length buf) (s .wLength)) refl
     where
       by : (v : Bool) → ltb (length buf) (s .wLength) ≡ v
           → Ok (control a z p s phaseOut) buf rest (after polledOnly (setupDone phaseOut v (requestOf (control a z p s phaseOut) buf) (s .wLength) now m))
-      by true q = ok-failed (control a z p s phaseOut) buf rest polledOnly BufferTooSmall now silent-polled
+      by true q = ok-failed (control a z p s phaseOut) buf rest polledOnly BufferTooSmall now refl silent-polled
       by false q = λ h.
           let room : s .wLength ≤ length buf = ltb-false (length buf) (s .wLength) q in
           let small = ck .kind .4 in
@@ -236,11 +282,11 @@ module _ (d : Driver) (b : Bool) (y : Sample) (now m log : List ℕ) (n : ℕ) (
     in-complete st wd bf e full i = let g = inRetireOne wd (inReceived st) (st .inflight) bf m in first (g .long) g
       where
         second : (v : Bool) (h : InRetiring) → Ok x buf rest (after completed (inSecondDone v h X (st .status) m))
-        second true h = ok-failed x buf rest completed ProtocolError (h .buffer) silent-completed
+        second true h = ok-failed x buf rest completed ProtocolError (h .buffer) refl silent-completed
         second false h = λ k. in-done x buf ck rest (st .status) (h .packets) (h .buffer) e full (i .0) (i .1)
 
         first : (v : Bool) (g : InRetiring) → Ok x buf rest (after quietened (inFirstDone v g wd X (st .status) m))
-        first true g = ok-failed x buf rest quietened ProtocolError (g .buffer) silent-quietened
+        first true g = ok-failed x buf rest quietened ProtocolError (g .buffer) refl silent-quietened
         first false g = let h = inRetireOne wd (g .packets) (g .inflight) (g .buffer) m in second (h .long) h
 
     in-rearm : (st : InStage) (dp : InDepacketiser) (k wd : ℕ) (bf : List ℕ) → finds y ≡ false → StageInv x buf n w f (inStage st) rest
@@ -258,11 +304,11 @@ module _ (d : Driver) (b : Bool) (y : Sample) (now m log : List ℕ) (n : ℕ) (
     in-move st wd bf e i = let g = inRetireOne wd (inReceived st) (st .inflight) bf m in first (g .long) g
       where
         second : (v : Bool) (h : InRetiring) → Ok x buf rest (after quietened (inSecondMoved v h wd X st m))
-        second true h = ok-failed x buf rest quietened ProtocolError (h .buffer) silent-quietened
+        second true h = ok-failed x buf rest quietened ProtocolError (h .buffer) refl silent-quietened
         second false h = λ k. in-rearm st (h .packets) (h .inflight) wd (h .buffer) e i
 
         first : (v : Bool) (g : InRetiring) → Ok x buf rest (after quietened (inFirstMoved v g wd X st m))
-        first true g = ok-failed x buf rest quietened ProtocolError (g .buffer) silent-quietened
+        first true g = ok-failed x buf rest quietened ProtocolError (g .buffer) refl silent-quietened
         first false g = let h = inRetireOne wd (g .packets) (g .inflight) (g .buffer) m in second (h .long) h
 
   -- ---- an OUT stage
@@ -324,18 +370,18 @@ module _ (d : Driver) (b : Bool) (y : Sample) (now m log : List ℕ) (n : ℕ) (
     unfolding setupStep inStep outStep
     step-polls st Pending e full i h = ok-same x buf ck rest st false (polled ∷ awaits ∷ []) silent-awaiting (ap isComplete e) i
     step-polls setupStage (Ready Complete) e full i h = setup-done x buf ck rest (ap isComplete e) full i h
-    step-polls setupStage (Ready (Failed u)) e full i h = ok-failed x buf rest polledOnly u now silent-polled h
+    step-polls setupStage (Ready (Failed u)) e full i h = ok-failed x buf rest polledOnly u now (found-ends y u e) silent-polled h
     step-polls setupStage (Ready Neither) e full i h = ok-same x buf ck rest setupStage true polledOnly silent-polled (ap isComplete e) i
     step-polls (inStage st) (Ready Complete) e full i h =
         keeps (st .status) x buf rest (inComplete (requestOf x buf) st (y .buffers) (lent (st .status) now) m) (in-complete x buf ck rest st (y .buffers) (lent (st .status) now) (ap isComplete e) full i) h
     step-polls (inStage st) (Ready (Failed u)) e full i h =
-        keeps (st .status) x buf rest (fails (requestOf x buf) u m (lent (st .status) now)) (ok-failed x buf rest quietened u (lent (st .status) now) silent-quietened) h
+        keeps (st .status) x buf rest (fails (requestOf x buf) u m (lent (st .status) now)) (ok-failed x buf rest quietened u (lent (st .status) now) (found-ends y u e) silent-quietened) h
     step-polls (inStage st) (Ready Neither) e full i h =
         keeps (st .status) x buf rest (inMove (requestOf x buf) st (y .buffers) (lent (st .status) now) m) (in-move x buf ck rest st (y .buffers) (lent (st .status) now) (ap isComplete e) i) h
     step-polls (outStage st) (Ready Complete) e full i h =
         keeps (st .status) x buf rest (outComplete (requestOf x buf) st (y .buffers) m (lent (st .status) now)) (out-complete st (y .buffers) (lent (st .status) now) (ap isComplete e) i) h
     step-polls (outStage st) (Ready (Failed u)) e full i h =
-        keeps (st .status) x buf rest (fails (requestOf x buf) u m (lent (st .status) now)) (ok-failed x buf rest quietened u (lent (st .status) now) silent-quietened) h
+        keeps (st .status) x buf rest (fails (requestOf x buf) u m (lent (st .status) now)) (ok-failed x buf rest quietened u (lent (st .status) now) (found-ends y u e) silent-quietened) h
     step-polls (outStage st) (Ready Neither) e full i h =
         keeps (st .status) x buf rest (outMove (requestOf x buf) st (y .buffers) (lent (st .status) now) m) (out-move st (ap isComplete e) full i) h
 

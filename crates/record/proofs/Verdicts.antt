@@ -2,8 +2,8 @@
 -- Assumes nothing.
 use mathlib.Core.Path.{_≡_, refl, sym, ap, ap₂, _∙_, subst}
 use mathlib.Core.Logic.{inl, inr}
-use mathlib.Core.Bool.{Bool, true, false, not, cond, _&&_}
-use mathlib.Core.List.{List, [], _∷_, _++_, append-assoc, append-nil}
+use mathlib.Core.Bool.{Bool, true, false, not, cond, _&&_, _||_}
+use mathlib.Core.List.{List, [], _∷_, _++_, map, append-assoc, append-nil}
 use Prim.Native.Nat.{ℕ, zero, suc, _+_, _*_, _-_, _≤_, _<_}
 use native.Mathlib.Omega.{arith}
 use lib.ListN.{length, drop, length-append, length-drop}
@@ -11,244 +11,362 @@ use lib.Seq.{drop-drop, drop-append-seam}
 use lib.Dec.{eqb, leb}
 use borrow.Author.Tests.{eqb-true, le-leb}
 use Rattle.pool.proofs.Cases.{byCases}
-use Rattle.record.specs.Grammar.{Four, Entry, setup, out, Bytes, group, bytes, AllOf, Sent, SentFits, sentEntries, Part, bulk, control, entries, Fits, AllFit, written, Reading}
+use Rattle.record.specs.Grammar.{Four, Entry, setup, out, Bytes, group, bytes, AllOf, Sent, SentFits, sentEntries, Part, bulk, control, entries, Fits, AllFit, written}
 use Rattle.record.specs.Grammar as G
-use Rattle.record.specs.Bytes.{version, headBytes, encode, encodeAll, recordOf}
-use Rattle.record.specs.Scan.{feed, feedAll, starts, countAll, Ends, InRange, AllInRange}
-use Rattle.record.specs.Reader.{headRight, look, finish, goOn, turnLook, turnOf, readFrom, atHead, checkOf}
-use Rattle.record.specs.Verdict.{Viable, Unmarked, NoWayOn, Verdict, mark, field, grammar, unfinished, whole}
-use Rattle.record.specs.declared.refusal.Refusal.the-variants.{Mark, Field, Grammar}
+use Rattle.record.specs.Segments.{Element, entry, failed, FirstPart, Segment, SegmentsFit, upTo, elements, Reading, finished}
+use Rattle.record.specs.Bytes.{headFor, encodeElement, encodeElements}
+use Rattle.record.specs.Scan.{Ends, AllInRange}
+use Rattle.record.specs.Place.{feedElement, runAfter, countAfter, Place, Reach, at, refused, reach, feedElements, start, ElementsInRange}
+use Rattle.record.specs.Reader.{versionAt, headRight, look, finish, goOn, turnLook, turnOf, readFrom, atHead, checkOf}
+use Rattle.record.specs.Verdict.{versionNumber, recordIn, Ranged, AllRanged, Reads, Viable, NoWayOn, Verdict, mark, field, grammar, unfinished, whole}
+use Rattle.record.specs.declared.refusal.Refusal.the-variants.{Mark as badMark, Field, Grammar}
 use Rattle.record.specs.declared.scan.Scan.{Scan}
 use Rattle.record.specs.declared.scan.Scan.the-variants.{Between as between, AfterSetup as afterSetup, InBulk as inBulk, InControl as inControl}
 use Rattle.record.specs.declared.scan.OptionScan.{OptionScan}
 use Rattle.record.specs.declared.scan.OptionScan.the-variants.{Some as some, None as none}
 use Rattle.record.specs.declared.look.Look.{Look}
-use Rattle.record.specs.declared.look.Look.the-variants.{Bad, End}
+use Rattle.record.specs.declared.look.Look.the-variants.{Failed, Bad, End}
 use Rattle.record.specs.declared.reader.CheckAnswer.{CheckAnswer}
 use Rattle.record.specs.declared.reader.CheckAnswer.the-variants.{Transfers, Refused}
 use Rattle.record.specs.declared.reader.Progress.{Progress}
-use Rattle.record.specs.declared.reader.Turn.the-variants.{Go}
+use Rattle.record.specs.declared.reader.Turn.the-variants.{Go, Stop}
 use Rattle.record.proofs.Both.{and-left, and-right}
-use Rattle.record.proofs.Encoding.{encode-append, encode-one}
-use Rattle.record.proofs.Automaton.{reader, feed-append}
-use Rattle.record.proofs.Looking.{Seen, seenEnd, seenBad, seenSetup, seenOut, seen}
+use Rattle.record.proofs.OneReading.{no-count}
+use Rattle.record.proofs.Placing.{reader, feed-elements-append}
+use Rattle.record.proofs.Few.{first-few}
+use Rattle.record.proofs.Encoding.{elements-append, element-one}
+use Rattle.record.proofs.Looking.{Seen, seenEnd, seenBad, seenSetup, seenOut, seenFailed, seen}
 use Rattle.record.proofs.Turns.{read-go, read-stop}
-use Rattle.record.proofs.Decoding.{Decoded, lookOf, look-encode, drop-encode, turn-encode, bytes-drop, setup-decoded, out-decoded}
+use Rattle.record.proofs.Decoding.{Decoded, lookMark, look-mark, drop-mark, turn-mark, bytes-drop, setup-decoded, out-decoded, failed-decoded}
+
+absurd-eq {ℓ} : {A : Type ℓ} → _≡_ {A = ℕ} 0 1 → A
+absurd-eq e = absurd (omega arith)
 
 -- ---- the head
 
-head-is : (s : List ℕ) → Bytes s → headRight s ≡ true → s ≡ headBytes ++ drop 5 s
-unfolding headRight
-head-is [] b h = absurd (let z : _≡_ {A = ℕ} 0 1 = cc in omega arith)
-head-is (x ∷ []) b h = absurd (let z : _≡_ {A = ℕ} 0 1 = cc in omega arith)
-head-is (x ∷ y ∷ []) b h = absurd (let z : _≡_ {A = ℕ} 0 1 = cc in omega arith)
-head-is (x ∷ y ∷ z ∷ []) b h = absurd (let z : _≡_ {A = ℕ} 0 1 = cc in omega arith)
-head-is (x ∷ y ∷ z ∷ u ∷ []) b h = absurd (let z : _≡_ {A = ℕ} 0 1 = cc in omega arith)
+record Head (s : List ℕ) : Type 0 where
+  two : Bool
+  version : eqb (versionAt s) 2 ≡ two
+  is : s ≡ headFor (versionNumber two) ++ drop 5 s
+
+head-is : (s : List ℕ) → Bytes s → headRight s ≡ true → Head s
+unfolding headRight versionAt
+head-is [] b h = absurd-eq (cc)
+head-is (x ∷ []) b h = absurd-eq (cc)
+head-is (x ∷ y ∷ []) b h = absurd-eq (cc)
+head-is (x ∷ y ∷ z ∷ []) b h = absurd-eq (cc)
+head-is (x ∷ y ∷ z ∷ u ∷ []) b h = absurd-eq (cc)
 head-is (x ∷ y ∷ z ∷ u ∷ v ∷ s) b h =
-    let t₄ = eqb (u + v * 256) version in
+    let w = u + v * 256 in
+    let t₄ = eqb w 1 || eqb w 2 in
     let t₃ = eqb z 0x47 && t₄ in
     let t₂ = eqb y 0x4C && t₃ in
     let t₁ = eqb x 0x57 && t₂ in
+    let five : leb 5 (length (x ∷ y ∷ z ∷ u ∷ v ∷ s)) ≡ true = le-leb 5 (length (x ∷ y ∷ z ∷ u ∷ v ∷ s)) (omega arith) in
     let h₁ = and-right (leb 5 (length (x ∷ y ∷ z ∷ u ∷ v ∷ s))) t₁ h in
     let h₂ = and-right (eqb x 0x57) t₂ h₁ in
     let h₃ = and-right (eqb y 0x4C) t₃ h₂ in
+    let h₄ = and-right (eqb z 0x47) t₄ h₃ in
     let ex : x ≡ 0x57 = eqb-true x 0x57 (and-left (eqb x 0x57) t₂ h₁) in
     let ey : y ≡ 0x4C = eqb-true y 0x4C (and-left (eqb y 0x4C) t₃ h₂) in
     let ez : z ≡ 0x47 = eqb-true z 0x47 (and-left (eqb z 0x47) t₄ h₃) in
-    let ew = eqb-true (u + v * 256) version (and-right (eqb z 0x47) t₄ h₃) in
     let bu = b .1 .1 .1 .0 in
+    let at : cond (leb 5 (length (x ∷ y ∷ z ∷ u ∷ v ∷ s))) w 0 ≡ w = ap (λ (c : Bool). cond c w 0) five in
+    byCases (eqb w 2)
+    (λ (q : eqb w 2 ≡ true).
+    let e : w ≡ 2 = eqb-true w 2 q in
+    let eu : u ≡ 2 = omega arith in
+    let ev : v ≡ 0 = omega arith in
+    record { two = true; version = ap (λ (n : ℕ). eqb n 2) at ∙ q; is = same ex ey ez eu ev })
+    (λ (q : eqb w 2 ≡ false).
+    let r : (eqb w 1 || false) ≡ true = subst (λ (c : Bool). (eqb w 1 || c) ≡ true) q h₄ in
+    let e : w ≡ 1 = eqb-true w 1 (or-false (eqb w 1) r) in
     let eu : u ≡ 1 = omega arith in
     let ev : v ≡ 0 = omega arith in
-    five ex ey ez eu ev
+    record { two = false; version = ap (λ (n : ℕ). eqb n 2) at ∙ q; is = same ex ey ez eu ev })
   where
-    five : {x y z u v x′ y′ z′ u′ v′ : ℕ} → x ≡ x′ → y ≡ y′ → z ≡ z′ → u ≡ u′ → v ≡ v′ → x ∷ y ∷ z ∷ u ∷ v ∷ s ≡ x′ ∷ y′ ∷ z′ ∷ u′ ∷ v′ ∷ s
-    five e₁ e₂ e₃ e₄ e₅ = cc
+    same : {x y z u v x′ y′ z′ u′ v′ : ℕ} → x ≡ x′ → y ≡ y′ → z ≡ z′ → u ≡ u′ → v ≡ v′ → x ∷ y ∷ z ∷ u ∷ v ∷ s ≡ x′ ∷ y′ ∷ z′ ∷ u′ ∷ v′ ∷ s
+    same e₁ e₂ e₃ e₄ e₅ = cc
 
-head-right : (r : List ℕ) → headRight (headBytes ++ r) ≡ true
+    or-false : (a : Bool) → (a || false) ≡ true → a ≡ true
+    or-false true k = refl
+    or-false false k = k
+
+head-right : (two : Bool) (r : List ℕ) → headRight (headFor (versionNumber two) ++ r) ≡ true
 unfolding headRight
-head-right r = rw (le-leb 5 (length (headBytes ++ r)) (omega arith))
+head-right true r = rw (le-leb 5 (length (headFor 2 ++ r)) (omega arith))
+head-right false r = rw (le-leb 5 (length (headFor 1 ++ r)) (omega arith))
+
+version-at : (two : Bool) (r : List ℕ) → eqb (versionAt (headFor (versionNumber two) ++ r)) 2 ≡ two
+unfolding versionAt
+version-at true r = rw (le-leb 5 (length (headFor 2 ++ r)) (omega arith))
+version-at false r = rw (le-leb 5 (length (headFor 1 ++ r)) (omega arith))
+
+-- ---- versions
+
+-- No counts.
+abbrev Plain : List Element → Type 0
+Plain [] = Unit {0}
+Plain (entry e ∷ ms) = Plain ms
+Plain (failed m ∷ ms) = ⊥
+
+plain-ranged : (ms : List Element) → AllRanged false ms → Plain ms
+plain-ranged [] h = tt
+plain-ranged (entry e ∷ ms) h = plain-ranged ms (h .1)
+plain-ranged (failed m ∷ ms) h = absurd (let z : false ≡ true = h .0 .1 in absurd-eq (cc))
+
+plain-append : (a : List Element) (b : List Entry) → Plain a → Plain (a ++ map entry b)
+plain-append [] b h = plain b
+  where
+    plain : (b : List Entry) → Plain (map entry b)
+    plain [] = tt
+    plain (e ∷ b) = plain b
+plain-append (entry e ∷ a) b h = plain-append a b h
+plain-append (failed m ∷ a) b h = absurd h
+
+plain-map : (ms : List Element) → Plain ms → (es : List Entry) × (map entry es ≡ ms)
+plain-map [] h = ([], refl)
+plain-map (entry e ∷ ms) h = let k = plain-map ms h in (e ∷ k .0, ap (λ (r : List Element). entry e ∷ r) (k .1))
+plain-map (failed m ∷ ms) h = absurd h
+
+plain-reading : (ms : List Element) → Plain ms → (k : Reading ms) → k .segments ≡ []
+plain-reading ms h k = let p = plain-map ms h in go (k .segments) (k .is ∙ sym (p .1))
+  where
+    go : (ss : List Segment) → elements ss (k .last) ≡ map entry (plain-map ms h .0) → ss ≡ []
+    go [] q = refl
+    go (g ∷ gs) q = no-count (plain-map ms h .0) (written (g .whole) ++ g .first) (length (g .first)) (upTo gs (map entry (written (k .last)))) (sym q)
+
+abbrev reads-of : (two : Bool) (ms : List Element) → AllRanged two ms → Reading ms → Reads two ms
+reads-of two ms h k = record { reading = k; plain = λ (e : two ≡ false). plain-reading ms (plain-ranged ms (subst (λ (v : Bool). AllRanged v ms) e h)) k }
+
+in-range : (two : Bool) (ms : List Element) → AllRanged two ms → ElementsInRange ms
+in-range two [] h = tt
+in-range two (m ∷ ms) h = (h .0 .0, in-range two ms (h .1))
+
+all-append : (two : Bool) (a b : List Element) → AllRanged two a → AllRanged two b → AllRanged two (a ++ b)
+all-append two [] b h k = k
+all-append two (m ∷ a) b h k = (h .0, all-append two a b (h .1) k)
+
+viable-of : (two : Bool) (ms : List Element) (p : Place) → AllRanged two ms → feedElements (at start) ms ≡ at p → Viable two ms
+viable-of two ms p h q =
+    let v = reader .viable ms p (in-range two ms h) q in
+    record {
+      after = map entry (v .0);
+      reads = record {
+        reading = v .1;
+        plain = λ (e : two ≡ false). plain-reading (ms ++ map entry (v .0)) (plain-append ms (v .0) (plain-ranged ms (subst (λ (u : Bool). AllRanged u ms) e h))) (v .1);
+      };
+    }
 
 -- ---- entries in a row
 
-feed-none : (es : List Entry) (st : Scan) {A : Type 0} → feedAll none es ≡ some st → A
-feed-none [] st e = absurd (let z : _≡_ {A = ℕ} 0 1 = cc in omega arith)
-feed-none (x ∷ es) st e = absurd (let z : _≡_ {A = ℕ} 0 1 = cc in omega arith)
+abbrev placeOf : Progress → Place
+placeOf p = record { scan = p .scan; run = p .run; count = p .count }
 
 -- The place after entries.
-abbrev landed : Progress → List Entry → Scan → Progress
-landed p es st = record { at = p .at + length (encodeAll es); scan = st; count = p .count + countAll (some (p .scan)) es }
+abbrev landed : Progress → List Element → Place → Progress
+landed p ms q = record { at = p .at + length (encodeElements ms); scan = q .scan; run = q .run; count = q .count }
 
-at-place : {a a′ k k′ : ℕ} (st : Scan) → a ≡ a′ → k ≡ k′ → _≡_ {A = Progress} (record { at = a; scan = st; count = k }) (record { at = a′; scan = st; count = k′ })
-at-place st e f = ap₂ (λ (x y : ℕ). record { at = x; scan = st; count = y }) e f
+pub after-mark : (s : List ℕ) (n : ℕ) (m : Element) (post : List ℕ) → drop n s ≡ encodeElement m ++ post → drop (n + length (encodeElement m)) s ≡ post
+after-mark s n m post q = sym (drop-drop (length (encodeElement m)) n s) ∙ ap (λ (l : List ℕ). drop (length (encodeElement m)) l) q ∙ drop-mark m post
 
-pub after-entry : (s : List ℕ) (n : ℕ) (e : Entry) (post : List ℕ) → drop n s ≡ encode e ++ post → drop (n + length (encode e)) s ≡ post
-after-entry s n e post q = sym (drop-drop (length (encode e)) n s) ∙ ap (λ (l : List ℕ). drop (length (encode e)) l) q ∙ drop-encode e post
+refused-at : {A : Type 0} (ms : List Element) (q : Place) → feedElements refused ms ≡ at q → A
+refused-at [] q e = absurd-eq (cc)
+refused-at (m ∷ ms) q e = absurd-eq (cc)
 
-run : (es : List Entry) (s : List ℕ) (p : Progress) (f : ℕ) (rest : List ℕ) (st : Scan) → drop (p .at) s ≡ encodeAll es ++ rest → AllInRange es
-    → feedAll (some (p .scan)) es ≡ some st → readFrom (length es + f) s p ≡ readFrom f s (landed p es st)
-unfolding encodeAll
-run [] s p f rest st q h e = let z : p .scan ≡ st = cc in let y : 0 + f ≡ f = omega arith in ap (λ (i : ℕ). readFrom i s p) y ∙ ap (λ (u : Progress). readFrom f s u) (sub z)
+run : (ms : List Element) (s : List ℕ) (two : Bool) (p : Progress) (f : ℕ) (rest : List ℕ) (q : Place) → drop (p .at) s ≡ encodeElements ms ++ rest → AllRanged two ms
+    → feedElements (at (placeOf p)) ms ≡ at q → readFrom (length ms + f) s two p ≡ readFrom f s two (landed p ms q)
+unfolding encodeElements
+run [] s two p f rest q d h e =
+    let z : placeOf p ≡ q = cc in
+    let y : 0 + f ≡ f = omega arith in
+    let a : p .at ≡ p .at + 0 = omega arith in
+    ap (λ (i : ℕ). readFrom i s two p) y
+    ∙ ap₂ (λ (i : ℕ) (r : Place). readFrom f s two (record { at = i; scan = r .scan; run = r .run; count = r .count })) a z
+run (x ∷ ms) s two p f rest q d h e = go (feedElement (p .scan) (p .run) x) refl (λ n k g. run ms s two n f rest q k (h .1) g)
   where
-    sub : p .scan ≡ st → _≡_ {A = Progress} p (landed p [] st)
-    sub z = subst (λ (v : Scan). _≡_ {A = Progress} p (landed p [] v)) z (at-place (p .scan) (omega arith) (omega arith))
-run (x ∷ es) s p f rest st q h e = go (feed (p .scan) x) refl e (λ n d g. run es s n f rest st d (h .1) g)
-  where
-    k : drop (p .at) s ≡ encode x ++ (encodeAll es ++ rest)
-    k = q ∙ append-assoc (encode x) (encodeAll es) rest
+    k : drop (p .at) s ≡ encodeElement x ++ (encodeElements ms ++ rest)
+    k = d ∙ append-assoc (encodeElement x) (encodeElements ms) rest
 
-    go : (o : OptionScan) → feed (p .scan) x ≡ o → feedAll o es ≡ some st
-        → ((n : Progress) → drop (n .at) s ≡ encodeAll es ++ rest → feedAll (some (n .scan)) es ≡ some st → readFrom (length es + f) s n ≡ readFrom f s (landed n es st))
-        → readFrom (length (x ∷ es) + f) s p ≡ readFrom f s (landed p (x ∷ es) st)
-    go none w g ih = feed-none es st g
-    go (some u) w g ih =
-        let n : Progress = record { at = p .at + length (encode x); scan = u; count = p .count + starts (p .scan) x } in
-        let t : turnOf s p ≡ Go n = turn-encode s p x (encodeAll es ++ rest) k (h .0) ∙ ap (λ (o : OptionScan). goOn o (p .at + length (encode x)) (p .count + starts (p .scan) x)) w in
-        let r = ih n (after-entry s (p .at) x (encodeAll es ++ rest) k) g in
-        let c : countAll (some u) es ≡ countAll (feed (p .scan) x) es = ap (λ (o : OptionScan). countAll o es) (sym w) in
-        let a = length-append (encode x) (encodeAll es) in
-        let m : suc (length es + f) ≡ length (x ∷ es) + f = omega arith in
-        ap (λ (i : ℕ). readFrom i s p) (sym m) ∙ read-go (length es + f) s p n t ∙ r ∙ ap (λ (y : Progress). readFrom f s y) (at-place st (omega arith) (omega arith))
+    go : (o : OptionScan) → feedElement (p .scan) (p .run) x ≡ o
+        → ((n : Progress) → drop (n .at) s ≡ encodeElements ms ++ rest → feedElements (at (placeOf n)) ms ≡ at q → readFrom (length ms + f) s two n ≡ readFrom f s two (landed n ms q))
+        → readFrom (length (x ∷ ms) + f) s two p ≡ readFrom f s two (landed p (x ∷ ms) q)
+    go none w ih = refused-at ms q (subst (λ (o : OptionScan). feedElements (reach o (runAfter (p .scan) (p .run) x) (countAfter (p .scan) (p .count) x)) ms ≡ at q) w e)
+    go (some u) w ih =
+        let n : Progress = record { at = p .at + length (encodeElement x); scan = u; run = runAfter (p .scan) (p .run) x; count = countAfter (p .scan) (p .count) x } in
+        let t : turnOf s two p ≡ Go n = turn-mark s two p x (encodeElements ms ++ rest) k (h .0 .0) (h .0 .1)
+        ∙ ap (λ (o : OptionScan). goOn o (p .at + length (encodeElement x)) (runAfter (p .scan) (p .run) x) (countAfter (p .scan) (p .count) x)) w in
+        let g = subst (λ (o : OptionScan). feedElements (reach o (runAfter (p .scan) (p .run) x) (countAfter (p .scan) (p .count) x)) ms ≡ at q) w e in
+        let r = ih n (after-mark s (p .at) x (encodeElements ms ++ rest) k) g in
+        let a = length-append (encodeElement x) (encodeElements ms) in
+        let m : suc (length ms + f) ≡ length (x ∷ ms) + f = omega arith in
+        ap (λ (i : ℕ). readFrom i s two p) (sym m) ∙ read-go (length ms + f) s two p n t ∙ r
+        ∙ ap (λ (i : ℕ). readFrom f s two (record { at = i; scan = q .scan; run = q .run; count = q .count })) (omega arith)
 
 -- ---- the answer is deserved
 
-all-append : (a b : List Entry) → AllInRange a → AllInRange b → AllInRange (a ++ b)
-all-append [] b h k = k
-all-append (e ∷ a) b h k = (h .0, all-append a b (h .1) k)
-
-count-append : (o : OptionScan) (a b : List Entry) → countAll o (a ++ b) ≡ countAll o a + countAll (feedAll o a) b
-count-append o [] b = omega arith
-count-append none (e ∷ a) b = stay b
-  where
-    stay : (b : List Entry) → 0 ≡ 0 + countAll none b
-    stay [] = refl
-    stay (x ∷ b) = refl
-count-append (some s) (e ∷ a) b = let z = count-append (feed s e) a b in omega arith
-
-record-snoc : (es : List Entry) (e : Entry) (r : List ℕ) → recordOf es ++ (encode e ++ r) ≡ recordOf (es ++ (e ∷ [])) ++ r
-unfolding recordOf
-record-snoc es e r =
-    sym (append-assoc (headBytes ++ encodeAll es) (encode e) r)
-    ∙ ap (λ (l : List ℕ). l ++ r) (append-assoc headBytes (encodeAll es) (encode e) ∙ ap (λ (l : List ℕ). headBytes ++ l) (ap (λ (l : List ℕ). encodeAll es ++ l) (sym (encode-one e)) ∙ sym (encode-append es (e ∷ []))))
-
-viable-of : (es : List Entry) (st : Scan) → AllInRange es → feedAll (some between) es ≡ some st → Viable es
-viable-of es st h q = let v = reader .viable es st h q in record { after = v .0; reading = v .1 }
+record-snoc : (two : Bool) (ms : List Element) (m : Element) (r : List ℕ) → recordIn two ms ++ (encodeElement m ++ r) ≡ recordIn two (ms ++ (m ∷ [])) ++ r
+unfolding recordIn
+record-snoc two ms m r =
+    let h = headFor (versionNumber two) in
+    sym (append-assoc (h ++ encodeElements ms) (encodeElement m) r)
+    ∙ ap (λ (l : List ℕ). l ++ r) (append-assoc h (encodeElements ms) (encodeElement m) ∙ ap (λ (l : List ℕ). h ++ l) (ap (λ (l : List ℕ). encodeElements ms ++ l) (sym (element-one m)) ∙ sym (elements-append ms (m ∷ []))))
 
 -- What was read so far.
-record Come (s : List ℕ) (p : Progress) : Type 0 where
-  done : List Entry
-  is : s ≡ recordOf done ++ drop (p .at) s
-  ranged : AllInRange done
-  fed : feedAll (some between) done ≡ some (p .scan)
-  counted : p .count ≡ countAll (some between) done
+record Come (s : List ℕ) (two : Bool) (p : Progress) : Type 0 where
+  done : List Element
+  is : s ≡ recordIn two done ++ drop (p .at) s
+  ranged : AllRanged two done
+  fed : feedElements (at start) done ≡ at (placeOf p)
 
-come-on : (s : List ℕ) (p : Progress) → Come s p → (e : Entry) (post : List ℕ) (u : Scan) → InRange e → drop (p .at) s ≡ encode e ++ post → feed (p .scan) e ≡ some u
-    → Come s (record { at = p .at + length (encode e); scan = u; count = p .count + starts (p .scan) e })
-come-on s p c e post u h q w = record {
-  done = c .done ++ (e ∷ []);
-  is = c .is ∙ ap (λ (l : List ℕ). recordOf (c .done) ++ l) q ∙ record-snoc (c .done) e post ∙ ap (λ (l : List ℕ). recordOf (c .done ++ (e ∷ [])) ++ l) (sym (after-entry s (p .at) e post q));
-  ranged = all-append (c .done) (e ∷ []) (c .ranged) (h, tt);
-  fed = feed-append (some between) (c .done) (e ∷ []) ∙ ap (λ (o : OptionScan). feedAll o (e ∷ [])) (c .fed) ∙ w;
-  counted =
-      let z = count-append (some between) (c .done) (e ∷ []) in
-      let y : countAll (feedAll (some between) (c .done)) (e ∷ []) ≡ starts (p .scan) e + 0 = ap (λ (o : OptionScan). countAll o (e ∷ [])) (c .fed) ∙ ap (λ (n : ℕ). starts (p .scan) e + n) (nothing (feed (p .scan) e)) in
-      let x = c .counted in
-      omega arith;
+come-on : (s : List ℕ) (two : Bool) (p : Progress) → Come s two p → (m : Element) (post : List ℕ) (u : Scan) → Ranged two m → drop (p .at) s ≡ encodeElement m ++ post
+    → feedElement (p .scan) (p .run) m ≡ some u
+    → Come s two (record { at = p .at + length (encodeElement m); scan = u; run = runAfter (p .scan) (p .run) m; count = countAfter (p .scan) (p .count) m })
+come-on s two p c m post u h q w = record {
+  done = c .done ++ (m ∷ []);
+  is = c .is ∙ ap (λ (l : List ℕ). recordIn two (c .done) ++ l) q ∙ record-snoc two (c .done) m post ∙ ap (λ (l : List ℕ). recordIn two (c .done ++ (m ∷ [])) ++ l) (sym (after-mark s (p .at) m post q));
+  ranged = all-append two (c .done) (m ∷ []) (c .ranged) (h, tt);
+  fed = feed-elements-append (at start) (c .done) (m ∷ []) ∙ ap (λ (o : Reach). feedElements o (m ∷ [])) (c .fed)
+      ∙ ap (λ (o : OptionScan). reach o (runAfter (p .scan) (p .run) m) (countAfter (p .scan) (p .count) m)) w;
 }
-  where
-    nothing : (o : OptionScan) → countAll o [] ≡ 0
-    nothing none = refl
-    nothing (some s) = refl
 
-at-end : (s : List ℕ) (st : Scan) (k : ℕ) (es : List Entry) → s ≡ recordOf es → AllInRange es → feedAll (some between) es ≡ some st → k ≡ countAll (some between) es → Verdict s (finish st k)
-at-end s between k es q h f c =
-    let r = reader .takes-only es h (subst Ends (sym f) tt) in
-    whole (record { es = es; is = q; reading = r }) (ap Transfers (c ∙ reader .counts es r))
-at-end s (afterSetup a w) k es q h f c =
-    let r = reader .takes-only es h (subst Ends (sym f) tt) in
-    whole (record { es = es; is = q; reading = r }) (ap Transfers (c ∙ reader .counts es r))
-at-end s (inBulk a e v p t) k es q h f c =
-    unfinished (record { es = es; is = q; ranged = h; viable = viable-of es (inBulk a e v p t) h f; unread = λ r. subst Ends f (reader .takes-all es r) }) refl
-at-end s (inControl a w v p t) k es q h f c =
-    unfinished (record { es = es; is = q; ranged = h; viable = viable-of es (inControl a w v p t) h f; unread = λ r. subst Ends f (reader .takes-all es r) }) refl
+at-same : (p q : Place) → at p ≡ at q → p ≡ q
+at-same p q e = cc
+
+-- The count of a record that was taken.
+count-is : (ms : List Element) (k : Reading ms) (p : Place) → feedElements (at start) ms ≡ at p → p .count ≡ length (finished (k .segments) (k .last))
+count-is ms k p f = let t = reader .takes-all ms k in ap (λ (q : Place). q .count) (at-same p (t .0) (sym f ∙ t .1)) ∙ t .3
+
+ends-is : (ms : List Element) (k : Reading ms) (p : Place) → feedElements (at start) ms ≡ at p → Ends (some (p .scan))
+ends-is ms k p f = let t = reader .takes-all ms k in subst (λ (q : Place). Ends (some (q .scan))) (sym (at-same p (t .0) (sym f ∙ t .1))) (t .2)
+
+at-end : (s : List ℕ) (two : Bool) (st : Scan) (r k : ℕ) (ms : List Element) → s ≡ recordIn two ms → AllRanged two ms → feedElements (at start) ms ≡ at (record { scan = st; run = r; count = k })
+    → Verdict s (finish st k)
+at-end s two between r k ms q h f =
+    let p : Place = record { scan = between; run = r; count = k } in
+    let w = reader .takes-only ms p (in-range two ms h) f tt in
+    whole (record { two = two; ms = ms; is = q; reads = reads-of two ms h w }) (ap Transfers (count-is ms w p f))
+at-end s two (afterSetup a n) r k ms q h f =
+    let p : Place = record { scan = afterSetup a n; run = r; count = k } in
+    let w = reader .takes-only ms p (in-range two ms h) f tt in
+    whole (record { two = two; ms = ms; is = q; reads = reads-of two ms h w }) (ap Transfers (count-is ms w p f))
+at-end s two (inBulk a e v n t) r k ms q h f =
+    let p : Place = record { scan = inBulk a e v n t; run = r; count = k } in
+    unfinished (record { two = two; ms = ms; is = q; ranged = h; viable = viable-of two ms p h f; unread = λ y. ends-is ms (y .reading) p f }) refl
+at-end s two (inControl a n v l t) r k ms q h f =
+    let p : Place = record { scan = inControl a n v l t; run = r; count = k } in
+    unfinished (record { two = two; ms = ms; is = q; ranged = h; viable = viable-of two ms p h f; unread = λ y. ends-is ms (y .reading) p f }) refl
 
 nil-of : (l : List ℕ) → length l ≡ 0 → l ≡ []
 nil-of [] e = refl
 nil-of (x ∷ l) e = absurd (omega arith)
 
-no-look : (e : Entry) → lookOf e ≡ Bad → ⊥
-no-look (setup a lo hi) q = let z : _≡_ {A = ℕ} 0 1 = cc in omega arith
-no-look (out a e b last l) q = let z : _≡_ {A = ℕ} 0 1 = cc in omega arith
+no-look : (m : Element) → lookMark m ≡ Bad → ⊥
+no-look (entry (setup a lo hi)) q = absurd-eq (cc)
+no-look (entry (out a e b last l)) q = absurd-eq (cc)
+no-look (failed m) q = absurd-eq (cc)
 
 look-nil : look [] ≡ Bad → ⊥
 unfolding look
-look-nil q = let z : _≡_ {A = ℕ} 0 1 = cc in omega arith
+look-nil q = absurd-eq (cc)
 
-encode-some : (e : Entry) → 1 ≤ length (encode e)
-encode-some (setup a lo hi) = omega arith
-encode-some (out a e b last l) = omega arith
+encode-some : (m : Element) → 1 ≤ length (encodeElement m)
+encode-some (entry (setup a lo hi)) = omega arith
+encode-some (entry (out a e b last l)) = omega arith
+encode-some (failed m) = omega arith
 
-turn-at : (s : List ℕ) (p : Progress) (y : Look) → look (drop (p .at) s) ≡ y → turnOf s p ≡ turnLook y p
+turn-at : (s : List ℕ) (two : Bool) (p : Progress) (y : Look) → look (drop (p .at) s) ≡ y → turnOf s two p ≡ turnLook two y p
 unfolding turnOf
-turn-at s p y q = ap (λ (v : Look). turnLook v p) q
+turn-at s two p y q = ap (λ (v : Look). turnLook two v p) q
 
-no-way-on : (s : List ℕ) (p : Progress) → Come s p → (e : Entry) (post : List ℕ) → InRange e → drop (p .at) s ≡ encode e ++ post → feed (p .scan) e ≡ none → NoWayOn s
-no-way-on s p c e post h q w = record {
-  es = c .done;
-  e = e;
+no-way-on : (s : List ℕ) (two : Bool) (p : Progress) → Come s two p → (m : Element) (post : List ℕ) → Ranged two m → drop (p .at) s ≡ encodeElement m ++ post → feedElement (p .scan) (p .run) m ≡ none → NoWayOn s
+no-way-on s two p c m post h q w = record {
+  two = two;
+  ms = c .done;
+  m = m;
   rest = post;
-  is = c .is ∙ ap (λ (l : List ℕ). recordOf (c .done) ++ l) q;
+  is = c .is ∙ ap (λ (l : List ℕ). recordIn two (c .done) ++ l) q;
   ranged = c .ranged;
   last-ranged = h;
-  viable = viable-of (c .done) (p .scan) (c .ranged) (c .fed);
-  stuck = λ v. reader .refuses (c .done ++ (e ∷ [])) (v .after) (feed-append (some between) (c .done) (e ∷ []) ∙ ap (λ (o : OptionScan). feedAll o (e ∷ [])) (c .fed) ∙ w) (v .reading);
+  viable = viable-of two (c .done) (placeOf p) (c .ranged) (c .fed);
+  stuck = λ v. reader .refuses (c .done ++ (m ∷ [])) (v .after)
+      (feed-elements-append (at start) (c .done) (m ∷ []) ∙ ap (λ (o : Reach). feedElements o (m ∷ [])) (c .fed) ∙ ap (λ (o : OptionScan). reach o (runAfter (p .scan) (p .run) m) (countAfter (p .scan) (p .count) m)) w)
+      (v .reads .reading);
 }
 
-exact-from : (f : ℕ) (s : List ℕ) (p : Progress) → Bytes s → length s < f + p .at → p .at ≤ length s → Come s p → Verdict s (readFrom f s p)
-exact-from zero s p b h i c = absurd (omega arith)
-exact-from (suc f) s p b h i c = go (seen (drop (p .at) s)) (λ n h′ i′ c′. exact-from f s n b h′ i′ c′)
+-- In version 1 a count is no entry.
+not-entry : (l : List ℕ) (v : ℕ) → look l ≡ Failed v → (m : Element) (r : List ℕ) → Ranged false m → l ≡ encodeElement m ++ r → ⊥
+not-entry l v q (entry e) r h z = no e (sym (look-mark (entry e) r (h .0)) ∙ ap look (sym z) ∙ q)
+  where
+    no : (e : Entry) → lookMark (entry e) ≡ Failed v → ⊥
+    no (setup a lo hi) k = absurd-eq (cc)
+    no (out a e b last l) k = absurd-eq (cc)
+not-entry l v q (failed m) r h z = let y : false ≡ true = h .1 in absurd-eq (cc)
+
+exact-from : (f : ℕ) (s : List ℕ) (two : Bool) (p : Progress) → Bytes s → length s < f + p .at → p .at ≤ length s → Come s two p → Verdict s (readFrom f s two p)
+exact-from zero s two p b h i c = absurd (omega arith)
+exact-from (suc f) s two p b h i c = go two c (seen (drop (p .at) s)) (λ two n h′ i′ c′. exact-from f s two n b h′ i′ c′)
   where
     l : List ℕ
     l = drop (p .at) s
 
-    at-entry : Decoded l → ((n : Progress) → length s < f + n .at → n .at ≤ length s → Come s n → Verdict s (readFrom f s n)) → Verdict s (readFrom (suc f) s p)
-    at-entry d ih = fork (feed (p .scan) (d .entry)) refl
+    Later : Type 0
+    Later = (two : Bool) (n : Progress) → length s < f + n .at → n .at ≤ length s → Come s two n → Verdict s (readFrom f s two n)
+
+    at-mark : (two : Bool) → Come s two p → Decoded two l → Later → Verdict s (readFrom (suc f) s two p)
+    at-mark two c d ih = fork (feedElement (p .scan) (p .run) (d .mark)) refl
       where
-        t : turnOf s p ≡ goOn (feed (p .scan) (d .entry)) (p .at + length (encode (d .entry))) (p .count + starts (p .scan) (d .entry))
-        t = turn-encode s p (d .entry) (d .rest) (d .is) (d .ranged)
+        t : turnOf s two p ≡ goOn (feedElement (p .scan) (p .run) (d .mark)) (p .at + length (encodeElement (d .mark))) (runAfter (p .scan) (p .run) (d .mark)) (countAfter (p .scan) (p .count) (d .mark))
+        t = turn-mark s two p (d .mark) (d .rest) (d .is) (d .ranged) (d .version)
 
-        fork : (o : OptionScan) → feed (p .scan) (d .entry) ≡ o → Verdict s (readFrom (suc f) s p)
+        fork : (o : OptionScan) → feedElement (p .scan) (p .run) (d .mark) ≡ o → Verdict s (readFrom (suc f) s two p)
         fork none w =
-            grammar (no-way-on s p c (d .entry) (d .rest) (d .ranged) (d .is) w)
-            (read-stop f s p (Refused Grammar) (t ∙ ap (λ (o : OptionScan). goOn o (p .at + length (encode (d .entry))) (p .count + starts (p .scan) (d .entry))) w))
+            grammar (no-way-on s two p c (d .mark) (d .rest) (d .ranged, d .version) (d .is) w)
+            (read-stop f s two p (Refused Grammar) (t ∙ ap (λ (o : OptionScan). goOn o (p .at + length (encodeElement (d .mark))) (runAfter (p .scan) (p .run) (d .mark)) (countAfter (p .scan) (p .count) (d .mark))) w))
         fork (some u) w =
-            let n : Progress = record { at = p .at + length (encode (d .entry)); scan = u; count = p .count + starts (p .scan) (d .entry) } in
-            let g : turnOf s p ≡ Go n = t ∙ ap (λ (o : OptionScan). goOn o (p .at + length (encode (d .entry))) (p .count + starts (p .scan) (d .entry))) w in
-            let e = encode-some (d .entry) in
-            let v = length-drop (p .at) s in
-            let z = ap length (d .is) ∙ length-append (encode (d .entry)) (d .rest) in
-            subst (Verdict s) (sym (read-go f s p n g)) (ih n (omega arith) (omega arith) (come-on s p c (d .entry) (d .rest) u (d .ranged) (d .is) w))
+            let n : Progress = record { at = p .at + length (encodeElement (d .mark)); scan = u; run = runAfter (p .scan) (p .run) (d .mark); count = countAfter (p .scan) (p .count) (d .mark) } in
+            let g : turnOf s two p ≡ Go n = t ∙ ap (λ (o : OptionScan). goOn o (p .at + length (encodeElement (d .mark))) (runAfter (p .scan) (p .run) (d .mark)) (countAfter (p .scan) (p .count) (d .mark))) w in
+            let e = encode-some (d .mark) in
+            let v′ = length-drop (p .at) s in
+            let z = ap length (d .is) ∙ length-append (encodeElement (d .mark)) (d .rest) in
+            subst (Verdict s) (sym (read-go f s two p n g)) (ih two n (omega arith) (omega arith) (come-on s two p c (d .mark) (d .rest) u (d .ranged, d .version) (d .is) w))
 
-    go : Seen l (look l) → ((n : Progress) → length s < f + n .at → n .at ≤ length s → Come s n → Verdict s (readFrom f s n)) → Verdict s (readFrom (suc f) s p)
-    go (seenEnd z q) ih =
-        subst (Verdict s) (sym (read-stop f s p (finish (p .scan) (p .count)) (turn-at s p End q)))
-        (at-end s (p .scan) (p .count) (c .done) (c .is ∙ ap (λ (v : List ℕ). recordOf (c .done) ++ v) (nil-of l z) ∙ append-nil (recordOf (c .done))) (c .ranged) (c .fed) (c .counted))
-    go (seenBad q) ih =
+    go : (two : Bool) → Come s two p → Seen l (look l) → Later → Verdict s (readFrom (suc f) s two p)
+    go two c (seenEnd z q) ih =
+        subst (Verdict s) (sym (read-stop f s two p (finish (p .scan) (p .count)) (turn-at s two p End q)))
+        (at-end s two (p .scan) (p .run) (p .count) (c .done) (c .is ∙ ap (λ (v : List ℕ). recordIn two (c .done) ++ v) (nil-of l z) ∙ append-nil (recordIn two (c .done))) (c .ranged) (c .fed))
+    go two c (seenBad q) ih =
         field (record {
-          es = c .done;
+          two = two;
+          ms = c .done;
           rest = l;
           is = c .is;
           ranged = c .ranged;
-          viable = viable-of (c .done) (p .scan) (c .ranged) (c .fed);
+          viable = viable-of two (c .done) (placeOf p) (c .ranged) (c .fed);
           more = λ z. look-nil (subst (λ (v : List ℕ). look v ≡ Bad) z q);
-          none = λ e r h z. no-look e (sym (look-encode e r h) ∙ subst (λ (v : List ℕ). look v ≡ Bad) z q);
+          none = λ m r h z. no-look m (sym (look-mark m r (h .0)) ∙ subst (λ (v : List ℕ). look v ≡ Bad) z q);
         })
-        (read-stop f s p (Refused Field) (turn-at s p Bad q))
-    go (seenSetup k m a q) ih = at-entry (setup-decoded l (bytes-drop (p .at) s b) k m a) ih
-    go (seenOut m q) ih = at-entry (out-decoded l (bytes-drop (p .at) s b) m) ih
+        (read-stop f s two p (Refused Field) (turn-at s two p Bad q))
+    go two c (seenSetup k m a q) ih = at-mark two c (setup-decoded two l (bytes-drop (p .at) s b) k m a) ih
+    go two c (seenOut m q) ih = at-mark two c (out-decoded two l (bytes-drop (p .at) s b) m) ih
+    go true c (seenFailed k m q) ih = at-mark true c (failed-decoded l (bytes-drop (p .at) s b) k m) ih
+    go false c (seenFailed k m q) ih =
+        field (record {
+          two = false;
+          ms = c .done;
+          rest = l;
+          is = c .is;
+          ranged = c .ranged;
+          viable = viable-of false (c .done) (placeOf p) (c .ranged) (c .fed);
+          more = λ z. let y : length l ≡ 0 = ap length z in omega (arith, y, m);
+          none = not-entry l _ q;
+        })
+        (read-stop f s false p (Refused Field) (turn-at s false p (Failed _) q))
 
-nil-record : (r : List ℕ) → headBytes ++ r ≡ recordOf [] ++ r
-unfolding recordOf encodeAll
-nil-record r = refl
+none-yet : (two : Bool) (r : List ℕ) → headFor (versionNumber two) ++ r ≡ recordIn two [] ++ r
+unfolding recordIn encodeElements
+none-yet true r = refl
+none-yet false r = refl
 
 -- The check answers what the bytes deserve.
 pub deserved : (s : List ℕ) → Bytes s → Verdict s (checkOf s)
@@ -257,51 +375,64 @@ deserved s b = byCases (headRight s)
     (λ (h : headRight s ≡ true).
     let q = head-is s b h in
     let v = length-drop 5 s in
-    let z = ap length q in
-    rw h (exact-from (suc (length s)) s atHead b (omega arith) (omega arith)
-    (record { done = []; is = q ∙ none-yet (drop 5 s); ranged = tt; fed = refl; counted = refl })))
+    let z : length s ≡ 5 + length (drop 5 s) = ap length (q .is) ∙ five (q .two) (drop 5 s) in
+    rw (h, q .version) (exact-from (suc (length s)) s (q .two) atHead b (omega arith) (omega arith)
+    (record { done = []; is = q .is ∙ none-yet (q .two) (drop 5 s); ranged = tt; fed = refl })))
     (λ (h : headRight s ≡ false).
-    rw h (mark (record { no-head = λ r q. false-true (sym h ∙ ap headRight q ∙ head-right r) }) refl))
+    rw h (mark (record { no-head = λ two r q. false-true (sym h ∙ ap headRight q ∙ head-right two r) }) refl))
   where
-    none-yet : (r : List ℕ) → headBytes ++ r ≡ recordOf [] ++ r
-    none-yet r = nil-record r
-
     false-true : false ≡ true → ⊥
-    false-true e = let z : _≡_ {A = ℕ} 0 1 = cc in omega arith
+    false-true e = absurd-eq (cc)
+
+    five : (two : Bool) (r : List ℕ) → length (headFor (versionNumber two) ++ r) ≡ 5 + length r
+    five true r = omega arith
+    five false r = omega arith
 
 -- ---- nothing else is deserved
 
-fed-of : (es : List Entry) → Viable es → (st : Scan) × (feedAll (some between) es ≡ some st)
-fed-of es v = go (feedAll (some between) es) refl
+fed-of : (two : Bool) (ms : List Element) → Viable two ms → (p : Place) × (feedElements (at start) ms ≡ at p)
+fed-of two ms v = go (feedElements (at start) ms) refl
   where
-    go : (o : OptionScan) → feedAll (some between) es ≡ o → (st : Scan) × (feedAll (some between) es ≡ some st)
-    go none q = absurd (reader .refuses es (v .after) q (v .reading))
-    go (some st) q = (st, q)
+    go : (o : Reach) → feedElements (at start) ms ≡ o → (p : Place) × (feedElements (at start) ms ≡ at p)
+    go refused q = absurd (reader .refuses ms (v .after) q (v .reads .reading))
+    go (at p) q = (p, q)
 
-pub few : (es : List Entry) → length es ≤ length (encodeAll es)
-unfolding encodeAll
+few : (ms : List Element) → length ms ≤ length (encodeElements ms)
+unfolding encodeElements
 few [] = omega arith
-few (e ∷ es) = let z = few es in let y = encode-some e in let x = length-append (encode e) (encodeAll es) in omega arith
+few (m ∷ ms) = let z = few ms in let y = encode-some m in let x = length-append (encodeElement m) (encodeElements ms) in omega arith
 
 -- The place after entries, and the check from there on.
-record Arrived (s : List ℕ) (es : List Entry) (rest : List ℕ) (st : Scan) : Type 0 where
+record Arrived (s : List ℕ) (two : Bool) (ms : List Element) (rest : List ℕ) (p : Place) : Type 0 where
   fuel : ℕ
-  same : checkOf s ≡ readFrom (suc fuel) s (landed atHead es st)
-  left : drop (5 + length (encodeAll es)) s ≡ rest
+  same : checkOf s ≡ readFrom (suc fuel) s two (landed atHead ms p)
+  left : drop (5 + length (encodeElements ms)) s ≡ rest
 
-arrive : (s : List ℕ) (es : List Entry) (rest : List ℕ) (st : Scan) → s ≡ recordOf es ++ rest → AllInRange es → feedAll (some between) es ≡ some st → Arrived s es rest st
-unfolding checkOf recordOf
-arrive s es rest st q h f =
-    let q₁ : s ≡ headBytes ++ (encodeAll es ++ rest) = q ∙ append-assoc headBytes (encodeAll es) rest in
-    let d : drop 5 s ≡ encodeAll es ++ rest = ap (λ (l : List ℕ). drop 5 l) q₁ in
-    let k = few es in
-    let z = ap length q₁ in
-    let y = length-append (encodeAll es) rest in
-    let n : suc (length s) ≡ length es + suc (length s - length es) = omega arith in
+drop-head : (two : Bool) (r : List ℕ) → drop 5 (headFor (versionNumber two) ++ r) ≡ r
+drop-head true r = refl
+drop-head false r = refl
+
+length-head : (two : Bool) (r : List ℕ) → length (headFor (versionNumber two) ++ r) ≡ 5 + length r
+length-head true r = omega arith
+length-head false r = omega arith
+
+arrive : (s : List ℕ) (two : Bool) (ms : List Element) (rest : List ℕ) (p : Place) → s ≡ recordIn two ms ++ rest → AllRanged two ms → feedElements (at start) ms ≡ at p → Arrived s two ms rest p
+unfolding checkOf recordIn
+arrive s two ms rest p q h f =
+    let hd = headFor (versionNumber two) in
+    let q₁ : s ≡ hd ++ (encodeElements ms ++ rest) = q ∙ append-assoc hd (encodeElements ms) rest in
+    let d : drop 5 s ≡ encodeElements ms ++ rest = ap (λ (l : List ℕ). drop 5 l) q₁ ∙ drop-head two (encodeElements ms ++ rest) in
+    let k = few ms in
+    let z = ap length q₁ ∙ length-head two (encodeElements ms ++ rest) in
+    let y = length-append (encodeElements ms) rest in
+    let n : suc (length s) ≡ length ms + suc (length s - length ms) = omega arith in
     record {
-      fuel = length s - length es;
-      same = ap (λ (b : Bool). cond b (readFrom (suc (length s)) s atHead) (Refused Mark)) (ap headRight q₁ ∙ head-right (encodeAll es ++ rest)) ∙ ap (λ (m : ℕ). readFrom m s atHead) n ∙ run es s atHead (suc (length s - length es)) rest st d h f;
-      left = sym (drop-drop (length (encodeAll es)) 5 s) ∙ ap (λ (l : List ℕ). drop (length (encodeAll es)) l) d ∙ drop-append-seam (encodeAll es) rest;
+      fuel = length s - length ms;
+      same =
+          ap₂ (λ (b v : Bool). cond b (readFrom (suc (length s)) s v atHead) (Refused badMark)) (ap headRight q₁ ∙ head-right two (encodeElements ms ++ rest))
+          (ap (λ (l : List ℕ). eqb (versionAt l) 2) q₁ ∙ version-at two (encodeElements ms ++ rest))
+          ∙ ap (λ (m : ℕ). readFrom m s two atHead) n ∙ run ms s two atHead (suc (length s - length ms)) rest p d h f;
+      left = sym (drop-drop (length (encodeElements ms)) 5 s) ∙ ap (λ (l : List ℕ). drop (length (encodeElements ms)) l) d ∙ drop-append-seam (encodeElements ms) rest;
     }
 
 finish-open : (st : Scan) (k : ℕ) → (Ends (some st) → ⊥) → finish st k ≡ Refused Grammar
@@ -320,32 +451,36 @@ look-end : look [] ≡ End
 unfolding look
 look-end = refl
 
-bad-of : (l : List ℕ) → Bytes l → (l ≡ [] → ⊥) → ((e : Entry) (r : List ℕ) → InRange e → l ≡ encode e ++ r → ⊥) → look l ≡ Bad
-bad-of l b m n = go (seen l)
-  where
-    go : Seen l (look l) → look l ≡ Bad
-    go (seenEnd z q) = absurd (m (nil-of l z))
-    go (seenBad q) = q
-    go (seenSetup k j a q) = let d = setup-decoded l b k j a in absurd (n (d .entry) (d .rest) (d .ranged) (d .is))
-    go (seenOut j q) = let d = out-decoded l b j in absurd (n (d .entry) (d .rest) (d .ranged) (d .is))
+at-the-end : (s : List ℕ) (two : Bool) (ms : List Element) (p : Place) → Arrived s two ms [] p → checkOf s ≡ finish (p .scan) (p .count)
+at-the-end s two ms p r =
+    let q = landed atHead ms p in
+    r .same ∙ read-stop (r .fuel) s two q (finish (p .scan) (p .count)) (turn-at s two q End (ap look (r .left) ∙ look-end))
 
-at-the-end : (s : List ℕ) (es : List Entry) (st : Scan) → Arrived s es [] st → checkOf s ≡ finish st (countAll (some between) es)
-at-the-end s es st r =
-    let p = landed atHead es st in
-    let z : 0 + countAll (some between) es ≡ countAll (some between) es = omega arith in
-    r .same ∙ read-stop (r .fuel) s p (finish st (p .count)) (turn-at s p End (ap look (r .left) ∙ look-end)) ∙ ap (λ (k : ℕ). finish st k) z
-
-check-unmarked : (s : List ℕ) → headRight s ≡ false → checkOf s ≡ Refused Mark
+check-unmarked : (s : List ℕ) → headRight s ≡ false → checkOf s ≡ Refused badMark
 unfolding checkOf
 check-unmarked s h = rw h
 
-stuck-none : (es : List Entry) (e : Entry) (st : Scan) → AllInRange es → InRange e → feedAll (some between) es ≡ some st → (Viable (es ++ (e ∷ [])) → ⊥) → feed st e ≡ none
-stuck-none es e st h k f n = go (feed st e) refl
+stuck-none : (two : Bool) (ms : List Element) (m : Element) (p : Place) → AllRanged two ms → Ranged two m → feedElements (at start) ms ≡ at p → (Viable two (ms ++ (m ∷ [])) → ⊥) → feedElement (p .scan) (p .run) m ≡ none
+stuck-none two ms m p h k f n = go (feedElement (p .scan) (p .run) m) refl
   where
-    go : (o : OptionScan) → feed st e ≡ o → feed st e ≡ none
+    go : (o : OptionScan) → feedElement (p .scan) (p .run) m ≡ o → feedElement (p .scan) (p .run) m ≡ none
     go none w = w
     go (some u) w =
-        absurd (n (viable-of (es ++ (e ∷ [])) u (all-append es (e ∷ []) h (k, tt)) (feed-append (some between) es (e ∷ []) ∙ ap (λ (o : OptionScan). feedAll o (e ∷ [])) f ∙ w)))
+        absurd (n (viable-of two (ms ++ (m ∷ [])) (record { scan = u; run = runAfter (p .scan) (p .run) m; count = countAfter (p .scan) (p .count) m }) (all-append two ms (m ∷ []) h (k, tt))
+        (feed-elements-append (at start) ms (m ∷ []) ∙ ap (λ (o : Reach). feedElements o (m ∷ [])) f ∙ ap (λ (o : OptionScan). reach o (runAfter (p .scan) (p .run) m) (countAfter (p .scan) (p .count) m)) w)))
+
+-- Where the reader sees no entry of the version it stops with 19.
+bad-turn : (s : List ℕ) (two : Bool) (p : Progress) (l : List ℕ) → drop (p .at) s ≡ l → Bytes l → (l ≡ [] → ⊥) → ((m : Element) (r : List ℕ) → Ranged two m → l ≡ encodeElement m ++ r → ⊥)
+    → turnOf s two p ≡ Stop (Refused Field)
+bad-turn s two p l e b m n = go two n (seen l)
+  where
+    go : (two : Bool) → ((m : Element) (r : List ℕ) → Ranged two m → l ≡ encodeElement m ++ r → ⊥) → Seen l (look l) → turnOf s two p ≡ Stop (Refused Field)
+    go two n (seenEnd z q) = absurd (m (nil-of l z))
+    go two n (seenBad q) = turn-at s two p Bad (ap look e ∙ q)
+    go two n (seenSetup k j a q) = let d = setup-decoded two l b k j a in absurd (n (d .mark) (d .rest) (d .ranged, d .version) (d .is))
+    go two n (seenOut j q) = let d = out-decoded two l b j in absurd (n (d .mark) (d .rest) (d .ranged, d .version) (d .is))
+    go true n (seenFailed k j q) = let d = failed-decoded l b k j in absurd (n (d .mark) (d .rest) (d .ranged, d .version) (d .is))
+    go false n (seenFailed k j q) = turn-at s false p (Failed _) (ap look e ∙ q)
 
 bytes-left : (a b : List ℕ) → Bytes (a ++ b) → Bytes a
 bytes-left [] b h = tt
@@ -379,45 +514,87 @@ part-ranged (bulk a n v xs l) f =
     group-ranged a n v xs l (z .p) (f .0) (f .2) (z .high) (z .full) (omega arith) (z .are)
 part-ranged (control a lo hi s) f = ((f .0, f .1, f .2), sent-ranged a hi s (f .0) (f .3))
 
-written-ranged : (qs : List Part) → AllFit qs → AllInRange (written qs)
-written-ranged [] f = tt
-written-ranged (q ∷ qs) f = all-append (entries q) (written qs) (part-ranged q (f .0)) (written-ranged qs (f .1))
+-- The entries of a record lie in their ranges.
+map-ranged : (es : List Entry) → AllInRange es → AllRanged true (map entry es)
+map-ranged [] h = tt
+map-ranged (e ∷ es) h = ((h .0, tt), map-ranged es (h .1))
 
--- Every encoding of a record of the grammar is accepted, with that many transfers.
-pub accepts : (s : List ℕ) (es : List Entry) → s ≡ recordOf es → (r : Reading es) → checkOf s ≡ Transfers (length (r .parts))
-accepts s es q r =
-    let h : AllInRange es = subst AllInRange (r .is) (written-ranged (r .parts) (r .fit)) in
-    let f = fed-of es (record { after = []; reading = subst Reading (sym (append-nil es)) r }) in
-    let z = arrive s es [] (f .0) (q ∙ sym (append-nil (recordOf es))) h (f .1) in
-    at-the-end s es (f .0) z ∙ finish-whole (f .0) (countAll (some between) es) (subst Ends (f .1) (reader .takes-all es r)) ∙ ap Transfers (reader .counts es r)
+entries-ranged : (qs : List Part) → AllFit qs → AllInRange (written qs)
+entries-ranged [] f = tt
+entries-ranged (q ∷ qs) f = both (entries q) (written qs) (part-ranged q (f .0)) (entries-ranged qs (f .1))
+  where
+    both : (a b : List Entry) → AllInRange a → AllInRange b → AllInRange (a ++ b)
+    both [] b h k = k
+    both (e ∷ a) b h k = (h .0, both a b (h .1) k)
+
+left-ranged : (a b : List Entry) → AllInRange (a ++ b) → AllInRange a
+left-ranged [] b h = tt
+left-ranged (e ∷ a) b h = (h .0, left-ranged a b (h .1))
+
+join-ranged : (a b : List Entry) → AllInRange a → AllInRange b → AllInRange (a ++ b)
+join-ranged [] b h k = k
+join-ranged (e ∷ a) b h k = (h .0, join-ranged a b (h .1) k)
+
+pub first-ranged : (es : List Entry) → FirstPart es → AllInRange es
+first-ranged es k = left-ranged es (k .rest) (subst AllInRange (sym (k .is)) (part-ranged (k .part) (k .fits)))
+
+marks-ranged : (ss : List Segment) (ps : List Part) → SegmentsFit ss → AllFit ps → AllRanged true (elements ss ps)
+marks-ranged [] ps f g = map-ranged (written ps) (entries-ranged ps g)
+marks-ranged (s ∷ ss) ps f g =
+    let es = written (s .whole) ++ s .first in
+    let n = first-few (s .first) (f .0 .1) in
+    all-append true (map entry es) (failed (length (s .first)) ∷ elements ss ps) (map-ranged es (join-ranged (written (s .whole)) (s .first) (entries-ranged (s .whole) (f .0 .0)) (first-ranged (s .first) (f .0 .1))))
+    ((omega arith, refl), marks-ranged ss ps (f .1) g)
+
+plain-true : (ms : List Element) → AllRanged true ms → Plain ms → AllRanged false ms
+plain-true [] h p = tt
+plain-true (entry e ∷ ms) h p = ((h .0 .0, tt), plain-true ms (h .1) p)
+plain-true (failed m ∷ ms) h p = absurd p
+
+reads-ranged : (two : Bool) (ms : List Element) → Reads two ms → AllRanged two ms
+reads-ranged true ms r = let k = r .reading in subst (AllRanged true) (k .is) (marks-ranged (k .segments) (k .last) (k .segments-fit) (k .last-fit))
+reads-ranged false ms r =
+    let k = r .reading in
+    let h : AllRanged true ms = subst (AllRanged true) (k .is) (marks-ranged (k .segments) (k .last) (k .segments-fit) (k .last-fit)) in
+    let e : map entry (written (k .last)) ≡ ms = ap (λ (ss : List Segment). elements ss (k .last)) (sym (r .plain refl)) ∙ k .is in
+    plain-true ms h (subst Plain e (plain-append [] (written (k .last)) tt))
+
+-- Every encoding of a record of the grammar is accepted, with as many transfers as didn't fail.
+pub accepts : (s : List ℕ) (two : Bool) (ms : List Element) → s ≡ recordIn two ms → (r : Reads two ms) → checkOf s ≡ Transfers (length (finished (r .reading .segments) (r .reading .last)))
+accepts s two ms q r =
+    let h = reads-ranged two ms r in
+    let f = fed-of two ms (record { after = []; reads = subst (Reads two) (sym (append-nil ms)) r }) in
+    let z = arrive s two ms [] (f .0) (q ∙ sym (append-nil (recordIn two ms))) h (f .1) in
+    at-the-end s two ms (f .0) z ∙ finish-whole (f .0 .scan) (f .0 .count) (ends-is ms (r .reading) (f .0) (f .1)) ∙ ap Transfers (count-is ms (r .reading) (f .0) (f .1))
 
 -- An answer that the bytes deserve is the check's.
 pub only-deserved : (s : List ℕ) (a : CheckAnswer) → Bytes s → Verdict s a → checkOf s ≡ a
-only-deserved s a b (mark u q) = unmarked s u b ∙ sym q
+only-deserved s a b (mark u q) = unmarked ∙ sym q
   where
-    unmarked : (s : List ℕ) → Unmarked s → Bytes s → checkOf s ≡ Refused Mark
-    unmarked s u b = byCases (headRight s)
-        (λ (h : headRight s ≡ true). absurd (u .no-head (drop 5 s) (head-is s b h)))
+    unmarked : checkOf s ≡ Refused badMark
+    unmarked = byCases (headRight s)
+        (λ (h : headRight s ≡ true). let k = head-is s b h in absurd (u .no-head (k .two) (drop 5 s) (k .is)))
         (λ (h : headRight s ≡ false). check-unmarked s h)
 only-deserved s a b (field u q) =
-    let f = fed-of (u .es) (u .viable) in
-    let r = arrive s (u .es) (u .rest) (f .0) (u .is) (u .ranged) (f .1) in
-    let p = landed atHead (u .es) (f .0) in
-    let br : Bytes (u .rest) = subst Bytes (r .left) (bytes-drop (5 + length (encodeAll (u .es))) s b) in
-    r .same ∙ read-stop (r .fuel) s p (Refused Field) (turn-at s p Bad (ap look (r .left) ∙ bad-of (u .rest) br (u .more) (u .none))) ∙ sym q
+    let f = fed-of (u .two) (u .ms) (u .viable) in
+    let r = arrive s (u .two) (u .ms) (u .rest) (f .0) (u .is) (u .ranged) (f .1) in
+    let p = landed atHead (u .ms) (f .0) in
+    let br : Bytes (u .rest) = subst Bytes (r .left) (bytes-drop (5 + length (encodeElements (u .ms))) s b) in
+    r .same ∙ read-stop (r .fuel) s (u .two) p (Refused Field) (bad-turn s (u .two) p (u .rest) (r .left) br (u .more) (u .none)) ∙ sym q
 only-deserved s a b (grammar u q) =
-    let f = fed-of (u .es) (u .viable) in
-    let r = arrive s (u .es) (encode (u .e) ++ u .rest) (f .0) (u .is) (u .ranged) (f .1) in
-    let p = landed atHead (u .es) (f .0) in
-    let w : feed (f .0) (u .e) ≡ none = stuck-none (u .es) (u .e) (f .0) (u .ranged) (u .last-ranged) (f .1) (u .stuck) in
-    let t = turn-encode s p (u .e) (u .rest) (r .left) (u .last-ranged) in
+    let f = fed-of (u .two) (u .ms) (u .viable) in
+    let r = arrive s (u .two) (u .ms) (encodeElement (u .m) ++ u .rest) (f .0) (u .is) (u .ranged) (f .1) in
+    let p = landed atHead (u .ms) (f .0) in
+    let w = stuck-none (u .two) (u .ms) (u .m) (f .0) (u .ranged) (u .last-ranged) (f .1) (u .stuck) in
+    let t = turn-mark s (u .two) p (u .m) (u .rest) (r .left) (u .last-ranged .0) (u .last-ranged .1) in
     r .same
-    ∙ read-stop (r .fuel) s p (Refused Grammar) (t ∙ ap (λ (o : OptionScan). goOn o (p .at + length (encode (u .e))) (p .count + starts (p .scan) (u .e))) w)
+    ∙ read-stop (r .fuel) s (u .two) p (Refused Grammar) (t ∙ ap (λ (o : OptionScan). goOn o (p .at + length (encodeElement (u .m))) (runAfter (p .scan) (p .run) (u .m)) (countAfter (p .scan) (p .count) (u .m))) w)
     ∙ sym q
 only-deserved s a b (unfinished u q) =
-    let f = fed-of (u .es) (u .viable) in
-    let r = arrive s (u .es) [] (f .0) (u .is ∙ sym (append-nil (recordOf (u .es)))) (u .ranged) (f .1) in
-    at-the-end s (u .es) (f .0) r
-    ∙ finish-open (f .0) (countAll (some between) (u .es)) (λ (z : Ends (some (f .0))). u .unread (reader .takes-only (u .es) (u .ranged) (subst Ends (sym (f .1)) z)))
+    let f = fed-of (u .two) (u .ms) (u .viable) in
+    let r = arrive s (u .two) (u .ms) [] (f .0) (u .is ∙ sym (append-nil (recordIn (u .two) (u .ms)))) (u .ranged) (f .1) in
+    at-the-end s (u .two) (u .ms) (f .0) r
+    ∙ finish-open (f .0 .scan) (f .0 .count)
+    (λ (z : Ends (some (f .0 .scan))). u .unread (reads-of (u .two) (u .ms) (u .ranged) (reader .takes-only (u .ms) (f .0) (in-range (u .two) (u .ms) (u .ranged)) (f .1) z)))
     ∙ sym q
-only-deserved s a b (whole u q) = accepts s (u .es) (u .is) (u .reading) ∙ sym q
+only-deserved s a b (whole u q) = accepts s (u .two) (u .ms) (u .is) (u .reads) ∙ sym q

@@ -1,17 +1,22 @@
--- The bytes of the wire record: "the mark `WLG`, version 1 as 16 bits, low byte first, then entries".
+-- The bytes of the wire record: the mark `WLG`, the version as 16 bits, low byte first, then entries. The writer writes version 2, "which the writer now writes"; the reader takes 1 and 2.
 use mathlib.Core.Bool.{Bool, true, false}
 use mathlib.Core.List.{List, [], _∷_, _++_}
 use Prim.Native.Nat.{ℕ, _/_, _%_}
 use lib.ListN.{length}
 use Rattle.record.specs.Grammar.{Four, four, Entry, setup, out}
+use Rattle.record.specs.Segments.{Element, entry, failed}
 
--- "version 1"
+-- The version that is written.
 abbrev pub version : ℕ
-version = 1
+version = 2
 
--- "the mark `WLG`, version 1 as 16 bits, low byte first"
+-- "the mark `WLG`", a version "as 16 bits, low byte first"
+abbrev pub headFor : ℕ → List ℕ
+headFor v = 0x57 ∷ 0x4C ∷ 0x47 ∷ v % 256 ∷ v / 256 ∷ []
+
+-- The head that is written.
 abbrev pub headBytes : List ℕ
-headBytes = 0x57 ∷ 0x4C ∷ 0x47 ∷ version % 256 ∷ version / 256 ∷ []
+headBytes = headFor version
 
 -- "PID (0 or 1), last (0 or 1)"
 abbrev pub bit : Bool → ℕ
@@ -32,6 +37,20 @@ unfoldable pub encodeAll : List Entry → List ℕ
 encodeAll [] = []
 encodeAll (e ∷ es) = encode e ++ encodeAll es
 
--- A record: head, then entries.
-unfoldable pub recordOf : List Entry → List ℕ
-recordOf es = headBytes ++ encodeAll es
+-- "the entry 0x58 and a 32-bit count, low byte first"
+abbrev pub failedBytes : ℕ → List ℕ
+failedBytes n = 0x58 ∷ n % 65536 % 256 ∷ n % 65536 / 256 ∷ n / 65536 % 256 ∷ n / 65536 / 256 ∷ []
+
+-- An entry of version 2.
+abbrev pub encodeElement : Element → List ℕ
+encodeElement (entry e) = encode e
+encodeElement (failed n) = failedBytes n
+
+-- Entries one after another.
+unfoldable pub encodeElements : List Element → List ℕ
+encodeElements [] = []
+encodeElements (m ∷ ms) = encodeElement m ++ encodeElements ms
+
+-- A record of version 2.
+unfoldable pub recordOf : List Element → List ℕ
+recordOf ms = headBytes ++ encodeElements ms

@@ -16,6 +16,8 @@ use Rattle.transfers.specs.declared.answers.StepAnswer.{StepAnswer}
 use Rattle.transfers.specs.declared.answers.CancelAnswer.{CancelAnswer}
 use Rattle.transfers.specs.declared.answers.CancelAnswer.the-variants.{Cancelled, Refused as refusedCancel}
 use Rattle.transfers.specs.declared.answers.Armed.{Armed}
+use Rattle.transfers.specs.declared.answers.OptionEntries.{OptionEntries}
+use Rattle.transfers.specs.declared.answers.OptionEntries.the-variants.{None as noCount}
 use Rattle.transfers.specs.declared.pipes.PipeSample.{PipeSample}
 use Rattle.transfers.specs.declared.pipes.OpenAnswer.{OpenAnswer}
 use Rattle.transfers.specs.declared.pipes.CloseAnswer.{CloseAnswer}
@@ -31,6 +33,7 @@ use Rattle.transfers.specs.Calls.{stepOf, cancelOf, Beginning, beginControlOf, 
 use Rattle.transfers.specs.Pipes.{opening, closing, polling}
 use Rattle.transfers.specs.Irq.{waking}
 use Rattle.transfers.specs.Detect.{detecting}
+use Rattle.transfers.specs.Entries.{entriesBegun, entriesStepped, entriesCancelled, failedStep, failedCancel}
 use Rattle.transfers.specs.Driver.{withTransfer}
 
 -- What a begin asks for: a control (address, extras, packet size, SETUP, phase) or a bulk transfer (direction, address, endpoint, packet size, type, toggle).
@@ -61,13 +64,14 @@ Answer (pollPipe n y m log) = PollAnswer
 Answer (interrupt ints status log) = IrqAnswer
 Answer (detect sie log) = DetectAnswer
 
--- What a call does: the next state, the answer, the writes that its log holds in order (`logged` of transfers), packet memory as it leaves it, and what it answers that it armed.
+-- What a call does: the next state, the answer, the writes that its log holds in order (`logged` of transfers), packet memory as it leaves it, what it answers that it armed, and the count that it answers for a transfer that failed.
 pub record Effect (c : Call) : Type 0 where
   pub next : Driver
   pub answer : Answer c
   pub writes : List Write
   pub memory : List ℕ
   pub armed : Armed
+  pub failed : OptionEntries
 
 -- A begin of the three: `begin_control`, `begin_bulk_in`, `begin_bulk_out`.
 abbrev pub beginning : Transfer → Begin → List ℕ → List ℕ → List ℕ → Beginning
@@ -77,22 +81,22 @@ beginning t (bulk Out a e p k b) buf m log = beginBulkOutOf t a e p k b buf m lo
 
 -- The driver's begin: what its transfer does, lifted.
 abbrev pub begins : Driver → (x : Begin) (buf m log : List ℕ) → Beginning → Effect (begin x buf m log)
-begins d x buf m log o = record { next = withTransfer d (o .next); answer = o .answer; writes = o .writes; memory = o .memory; armed = o .armed }
+begins d x buf m log o = record { next = withTransfer d (o .next) (entriesBegun (o .answer) (d .entries) (o .armed)); answer = o .answer; writes = o .writes; memory = o .memory; armed = o .armed; failed = noCount }
 
 -- The driver's step, the same way.
 abbrev pub steps : Driver → (b : Bool) (y : Sample) (buf m log : List ℕ) → Outcome → Effect (step b y buf m log)
-steps d b y buf m log o = record { next = withTransfer d (o .next); answer = o .answer; writes = o .writes; memory = o .memory; armed = o .armed }
+steps d b y buf m log o = record { next = withTransfer d (o .next) (entriesStepped (o .answer) (d .entries) (o .armed)); answer = o .answer; writes = o .writes; memory = o .memory; armed = o .armed; failed = failedStep (o .answer) (d .entries) }
 
 -- A call, by the definitions that the driver's functions are proved equal to. Only begin and step store in packet memory and arm.
 unfoldable pub call : Driver → (c : Call) → Effect c
 call d (begin x buf m log) = begins d x buf m log (beginning (d .transfer) x buf m log)
 call d (step b y buf m log) = steps d b y buf m log (stepOf b (d .transfer) y buf m log)
-call d cancel = let o = cancelOf (d .transfer) in record { next = withTransfer d (o .next); answer = o .answer; writes = []; memory = []; armed = nothingArmed }
-call d (openPipe a x e p i log) = let o = opening d a x e p i log in record { next = o .next; answer = o .answer; writes = o .writes; memory = []; armed = nothingArmed }
-call d (closePipe n) = let o = closing d n in record { next = o .next; answer = o .answer; writes = []; memory = []; armed = nothingArmed }
-call d (pollPipe n y m log) = let o = polling d n y m log in record { next = o .next; answer = o .answer; writes = o .writes; memory = m; armed = nothingArmed }
-call d (interrupt ints status log) = let o = waking ints status log in record { next = d; answer = o .answer; writes = o .writes; memory = []; armed = nothingArmed }
-call d (detect sie log) = let o = detecting d sie log in record { next = o .next; answer = o .answer; writes = o .writes; memory = []; armed = nothingArmed }
+call d cancel = let o = cancelOf (d .transfer) in record { next = withTransfer d (o .next) (entriesCancelled (o .answer) (d .entries)); answer = o .answer; writes = []; memory = []; armed = nothingArmed; failed = failedCancel (o .answer) (d .entries) }
+call d (openPipe a x e p i log) = let o = opening d a x e p i log in record { next = o .next; answer = o .answer; writes = o .writes; memory = []; armed = nothingArmed; failed = noCount }
+call d (closePipe n) = let o = closing d n in record { next = o .next; answer = o .answer; writes = []; memory = []; armed = nothingArmed; failed = noCount }
+call d (pollPipe n y m log) = let o = polling d n y m log in record { next = o .next; answer = o .answer; writes = o .writes; memory = m; armed = nothingArmed; failed = noCount }
+call d (interrupt ints status log) = let o = waking ints status log in record { next = d; answer = o .answer; writes = o .writes; memory = []; armed = nothingArmed; failed = noCount }
+call d (detect sie log) = let o = detecting d sie log in record { next = o .next; answer = o .answer; writes = o .writes; memory = []; armed = nothingArmed; failed = noCount }
 
 -- What a call and its answer tell of transfers: one began (its fields and buffer), one was stepped (the answer, sample and buffer), one was cancelled, or nothing.
 pub data Note : Type 0 where

@@ -94,7 +94,7 @@ written [] = []
 written (q ∷ qs) = entries q ++ written qs
 
 -- "A reading cuts a record into bulk groups and controls": parts of the grammar whose record it is. A record lies in the grammar if it has a reading.
-pub record Reading (r : List Entry) : Type 0 where
+pub record PlainReading (r : List Entry) : Type 0 where
   pub parts : List Part
   pub fit : AllFit parts
   pub is : written parts ≡ r

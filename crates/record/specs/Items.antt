@@ -1,21 +1,22 @@
 -- The items of a record, one after another: "a control's address, SETUP and OUT bytes; a bulk group's address, endpoint, first PID and bytes".
 use mathlib.Core.Path.{_≡_}
-use mathlib.Core.Bool.{cond}
-use mathlib.Core.List.{List, [], _∷_}
+use mathlib.Core.Bool.{Bool, true, false, not, cond}
+use mathlib.Core.List.{List, [], _∷_, _++_}
 use Prim.Native.Nat.{ℕ, zero, suc, _+_}
 use lib.ListN.{length, drop}
 use lib.Dec.{eqb}
-use Rattle.record.specs.Grammar.{Part, bulk, control, entries, bytes, sentBytes}
+use Rattle.record.specs.Grammar.{Part, bulk, control, entries, written, bytes, sentBytes}
+use Rattle.record.specs.Segments.{Segment, finished}
 use Rattle.record.specs.Bytes.{encodeAll}
 use Rattle.record.specs.Reader.{look}
 use Rattle.record.specs.Verdict.{Whole}
 use Rattle.record.specs.declared.look.Look.{Look}
-use Rattle.record.specs.declared.look.Look.the-variants.{Setup, Out, Bad, End}
+use Rattle.record.specs.declared.look.Look.the-variants.{Setup, Out, Failed, Bad, End}
 use Rattle.record.specs.declared.items.Span.{Span}
 use Rattle.record.specs.declared.items.SpanTurn.{SpanTurn}
 use Rattle.record.specs.declared.items.SpanTurn.the-variants.{More, Ended}
 use Rattle.record.specs.declared.items.ItemAnswer.{ItemAnswer}
-use Rattle.record.specs.declared.items.ItemAnswer.the-variants.{Control, Bulk, End as noItem}
+use Rattle.record.specs.declared.items.ItemAnswer.the-variants.{Control, Bulk, Failed as failedItem, End as noItem}
 
 -- The first item stands after the head.
 abbrev pub firstAt : ℕ
@@ -25,6 +26,7 @@ firstAt = 5
 abbrev pub groupLook : Look → Span → SpanTurn
 groupLook (Out x) p = cond (x .last) (Ended (record { at = p .at + (6 + x .length); count = p .count + x .length })) (More (record { at = p .at + (6 + x .length); count = p .count + x .length }))
 groupLook (Setup a w) p = Ended p
+groupLook (Failed m) p = Ended p
 groupLook Bad p = Ended p
 groupLook End p = Ended p
 
@@ -45,6 +47,7 @@ groupAt s at = groupFrom (suc (length s)) s (record { at = at; count = 0 })
 abbrev pub sentLook : Look → List ℕ → ℕ → Span
 sentLook (Out x) s at = cond (eqb (x .endpoint) 0) (groupAt s at) (record { at = at; count = 0 })
 sentLook (Setup a w) s at = record { at = at; count = 0 }
+sentLook (Failed m) s at = record { at = at; count = 0 }
 sentLook Bad s at = record { at = at; count = 0 }
 sentLook End s at = record { at = at; count = 0 }
 
@@ -52,10 +55,32 @@ sentLook End s at = record { at = at; count = 0 }
 unfoldable pub sentAt : List ℕ → ℕ → Span
 sentAt s at = sentLook (look (drop at s)) s at
 
--- An item, by the entry that it begins with.
+-- A count above 0: the item before it failed.
+abbrev pub failedLook : Look → Bool
+failedLook (Failed m) = not (eqb m 0)
+failedLook (Setup a w) = false
+failedLook (Out x) = false
+failedLook Bad = false
+failedLook End = false
+
+-- The same at a position of a record.
+unfoldable pub failedAt : List ℕ → ℕ → Bool
+failedAt s at = failedLook (look (drop at s))
+
+-- "lists .. only transfers that didn't fail": of one that failed, the position after its count.
+abbrev pub unless : Bool → ℕ → ItemAnswer → ItemAnswer
+unless true at y = failedItem (record { at = at + 5 })
+unless false at y = y
+
+-- An item, by the entry that it begins with; a count of none stands for a transfer that armed nothing.
 abbrev pub itemLook : Look → List ℕ → ℕ → ItemAnswer
-itemLook (Setup a w) s at = Control (record { address = a; setup = at + 2; count = sentAt s (at + 10) .count; next = record { at = sentAt s (at + 10) .at } })
-itemLook (Out x) s at = Bulk (record { address = x .address; endpoint = x .endpoint; pid = x .pid; count = groupAt s at .count; next = record { at = groupAt s at .at } })
+itemLook (Setup a w) s at =
+    unless (failedAt s (sentAt s (at + 10) .at)) (sentAt s (at + 10) .at)
+    (Control (record { address = a; setup = at + 2; count = sentAt s (at + 10) .count; next = record { at = sentAt s (at + 10) .at } }))
+itemLook (Out x) s at =
+    unless (failedAt s (groupAt s at .at)) (groupAt s at .at)
+    (Bulk (record { address = x .address; endpoint = x .endpoint; pid = x .pid; count = groupAt s at .count; next = record { at = groupAt s at .at } }))
+itemLook (Failed m) s at = failedItem (record { at = at + 5 })
 itemLook Bad s at = noItem
 itemLook End s at = noItem
 
@@ -72,6 +97,7 @@ itemFor (control a lo hi s) at = Control (record { address = a; setup = at + 2; 
 abbrev pub nextOf : ItemAnswer → ℕ → ℕ
 nextOf (Control c) at = c .next .at
 nextOf (Bulk b) at = b .next .at
+nextOf (failedItem c) at = c .at
 nextOf noItem at = at
 
 -- What the cursor hands out, k times.
@@ -84,8 +110,21 @@ abbrev pub itemsFor : List Part → ℕ → List ItemAnswer
 itemsFor [] at = []
 itemsFor (q ∷ qs) at = itemFor q at ∷ itemsFor qs (at + length (encodeAll (entries q)))
 
--- A record that the check accepts has a reading, and the cursor hands out its items from the first on.
+-- What stands for a reading in version 2: the whole transfers before a count, one that failed, and so on.
+abbrev pub answersFor : List Segment → List Part → ℕ → List ItemAnswer
+answersFor [] ps at = itemsFor ps at
+answersFor (g ∷ gs) ps at =
+    let end = at + length (encodeAll (written (g .whole) ++ g .first)) + 5 in
+    itemsFor (g .whole) at ++ (failedItem (record { at = end }) ∷ answersFor gs ps end)
+
+-- How many times the cursor is moved: once for each whole transfer and once for each count.
+abbrev pub moves : List Segment → List Part → ℕ
+moves [] ps = length ps
+moves (g ∷ gs) ps = length (g .whole) + suc (moves gs ps)
+
+-- A record that the check accepts has a reading; the cursor hands out its items from the first on, and then the end.
 pub record Accepted (s : List ℕ) (n : ℕ) : Type 0 where
   pub record-is : Whole s
-  pub count : n ≡ length (record-is .reading .parts)
-  pub items : itemsFrom n s firstAt ≡ itemsFor (record-is .reading .parts) firstAt
+  pub count : n ≡ length (finished (record-is .reads .reading .segments) (record-is .reads .reading .last))
+  pub items : itemsFrom (moves (record-is .reads .reading .segments) (record-is .reads .reading .last)) s firstAt
+      ≡ answersFor (record-is .reads .reading .segments) (record-is .reads .reading .last) firstAt

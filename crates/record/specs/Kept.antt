@@ -1,9 +1,11 @@
--- The record that the writer leaves: "Called first for nothing armed, then after every begin and step with the packet memory as that call left it, and refused nowhere".
+-- The record that the writer leaves: "Called first for nothing armed, then after every begin and step with the packet memory as that call left it, and refused nowhere"; "the writer is called after cancels too".
 use mathlib.Core.Path.{_≡_}
 use mathlib.Core.List.{List, [], _∷_}
-use Prim.Native.Nat.{ℕ}
+use Prim.Native.Nat.{ℕ, suc}
 use lib.ListN.{length}
 use Rattle.transfers.specs.declared.answers.Armed.{Armed}
+use Rattle.transfers.specs.declared.answers.OptionEntries.{OptionEntries}
+use Rattle.transfers.specs.declared.answers.OptionEntries.the-variants.{None as noCount}
 use Rattle.transfers.specs.declared.driver.Driver.{Driver}
 use Rattle.transfers.specs.Answers.{nothingArmed}
 use Rattle.transfers.specs.Driver.{fresh}
@@ -23,29 +25,29 @@ keptBy (Used n) l = kept l n
 keptBy (Refused why) l = refused
 
 -- One call of the writer, by the definition that `append` is proved equal to.
-abbrev pub appends : Armed → List ℕ → Kept → Kept
-appends a m refused = refused
-appends a m (kept l n) = let o = appendOf a m l n in keptBy (o .answer) (o .bytes)
+abbrev pub appends : Armed → OptionEntries → List ℕ → Kept → Kept
+appends a x m refused = refused
+appends a x m (kept l n) = let o = appendOf a x m l n in keptBy (o .answer) (o .bytes)
 
--- "after every begin and step with the packet memory as that call left it"
-abbrev pub appendsAfter : (c : Call) → Effect c → Kept → Kept
-appendsAfter (begin x buf m log) o k = appends (o .armed) (o .memory) k
-appendsAfter (step b y buf m log) o k = appends (o .armed) (o .memory) k
-appendsAfter cancel o k = k
-appendsAfter (openPipe a x e p i log) o k = k
-appendsAfter (closePipe n) o k = k
-appendsAfter (pollPipe n y m log) o k = k
-appendsAfter (interrupt ints status log) o k = k
-appendsAfter (detect sie log) o k = k
+-- "after every begin and step with the packet memory as that call left it", and after cancels, which are lent none, with any (m).
+abbrev pub appendsAfter : List ℕ → (c : Call) → Effect c → Kept → Kept
+appendsAfter m (begin x buf pm log) o k = appends (o .armed) (o .failed) (o .memory) k
+appendsAfter m (step b y buf pm log) o k = appends (o .armed) (o .failed) (o .memory) k
+appendsAfter m cancel o k = appends (o .armed) (o .failed) m k
+appendsAfter m (openPipe a x e p i log) o k = k
+appendsAfter m (closePipe n) o k = k
+appendsAfter m (pollPipe n y pm log) o k = k
+appendsAfter m (interrupt ints status log) o k = k
+appendsAfter m (detect sie log) o k = k
 
--- Along a list of calls.
-unfoldable pub keptFrom : Kept → Driver → List Call → Kept
-keptFrom k d [] = k
-keptFrom k d (c ∷ cs) = let o = call d c in keptFrom (appendsAfter c o k) (o .next) cs
+-- Along a list of calls; `ms i` is what the writer is lent if call i is a cancel.
+unfoldable pub keptFrom : (ℕ → List ℕ) → Kept → Driver → List Call → Kept
+keptFrom ms k d [] = k
+keptFrom ms k d (c ∷ cs) = let o = call d c in keptFrom (λ i. ms (suc i)) (appendsAfter (ms 0) c o k) (o .next) cs
 
--- "Called first for nothing armed": a record l is lent, of which nothing is used, and a packet memory m.
-abbrev pub keptAll : List ℕ → List ℕ → List Call → Kept
-keptAll l m cs = keptFrom (appends nothingArmed m (kept l 0)) fresh cs
+-- "Called first for nothing armed": a record l is lent, of which nothing is used, and the packet memory `ms 0`.
+abbrev pub keptAll : List ℕ → (ℕ → List ℕ) → List Call → Kept
+keptAll l ms cs = keptFrom (λ i. ms (suc i)) (appends nothingArmed noCount (ms 0) (kept l 0)) fresh cs
 
 -- The packet memory lent to a begin or step is 4,096 bytes (else the writer too refuses with 15).
 abbrev pub Lent : Call → Type 0

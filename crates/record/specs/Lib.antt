@@ -1,14 +1,19 @@
--- The root of the specification.
+-- The root of the specification, in reading order.
 pub mod Grammar
+pub mod Segments
 pub mod Wire
 pub mod Calls
 pub mod Armed
+pub mod Asked
+pub mod Told
 pub mod Record
+pub mod Fates
 pub mod Premises
 pub mod Bytes
 pub mod Refusal
 pub mod Writer
 pub mod Scan
+pub mod Place
 pub mod Reader
 pub mod Verdict
 pub mod Items

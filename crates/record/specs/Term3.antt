@@ -4,63 +4,88 @@
 -- SETUP, endpoint, first PID and sent bytes are the caller's, a control OUT's being its buffer's first wLength, and its packets are document 01's cutting of
 -- those bytes. Every record of the grammar comes from some such list that meets the premises. Premises: each started transfer ended with a count, each step
 -- that acted on an OUT transfer was lent its begin's bytes, and an OUT stage was reported complete only after its marked packet was taken."
+-- Request R-13: "Under the other premises of the record's claim, runs with failures are covered too, once every started transfer has ended or been cancelled:
+-- the reading is the transfers that ended with a count, the entries counted are the first of their own transfer's, and only version 2 records without 0x58
+-- need come from some list."
 use mathlib.Core.Path.{_≡_}
-use mathlib.Core.List.{List, map}
+use mathlib.Core.List.{List, [], map}
 use Prim.Native.Nat.{ℕ, _≤_}
 use lib.ListN.{length, take, drop}
-use Rattle.record.specs.Grammar.{Entry, entries, item, Reading}
-use Rattle.record.specs.Wire.{File}
 use Rattle.transfers.specs.Driver.{fresh}
+use Rattle.record.specs.Grammar.{Entry, entries, PlainReading, item}
+use Rattle.record.specs.Segments.{Element, entry, Reading, finished}
+use Rattle.record.specs.Wire.{File}
 use Rattle.record.specs.Calls.{Call}
-use Rattle.record.specs.Record.{AllTyped, recordFrom, answeredFrom, begunFrom, listed, itemOf, armedBy}
-use Rattle.record.specs.Premises.{none, unarmed, PremisesFrom}
+use Rattle.record.specs.Asked.{AllTyped, listed, itemOf, armedBy}
+use Rattle.record.specs.Told.{none, unarmed}
+use Rattle.record.specs.Record.{recordFrom, answeredFrom}
+use Rattle.record.specs.Fates.{Fate, fatesFrom, begunFrom, allOf, endedOf, brokenOf, FirstsOf}
+use Rattle.record.specs.Premises.{PremisesFrom}
 use Rattle.record.specs.Bytes.{recordOf}
 use Rattle.record.specs.Kept.{kept, refused, keptAll, AllLent}
 use Rattle.record.specs.Reader.{checkOf}
-use Rattle.record.specs.Items.{firstAt, itemsFrom, itemsFor}
+use Rattle.record.specs.Items.{firstAt, itemsFrom, answersFor, moves}
 use Rattle.record.specs.declared.reader.CheckAnswer.the-variants.{Transfers}
 
--- The premises, from a fresh driver. f is the registers before the first call.
+-- ---- from a fresh driver; f is the registers before the first call, any
+
+-- The wire record.
+abbrev pub wireRecord : File → List Call → List Element
+wireRecord f cs = recordFrom f fresh 0 cs
+
+-- What became of the transfers begun.
+abbrev pub fates : List Call → List Fate
+fates cs = fatesFrom none fresh cs
+
+-- The premises.
 abbrev pub Premises : File → List Call → Type 0
 Premises f cs = PremisesFrom none 0 unarmed f fresh cs
 
--- The record of a list of calls has a reading and no other. Its items are those of the transfers begun, and its packets their cuttings.
+-- ---- the customer's sentences
+
+-- The record has a reading and no other. Each transfer begun ended with a count or failed, in order; the reading's items are those of the transfers that ended
+-- with a count, its packets their cuttings, and the entries that each of its counts counts are the first of the transfer that failed there.
 pub record Recorded (f : File) (cs : List Call) : Type 0 where
-  pub reading : Reading (recordFrom f fresh cs)
-  pub only : (r : Reading (recordFrom f fresh cs)) → r .parts ≡ reading .parts
+  pub reading : Reading (wireRecord f cs)
+  pub only : (r : Reading (wireRecord f cs)) → (r .segments ≡ reading .segments) × (r .last ≡ reading .last)
+  pub begun : allOf (fates cs) ≡ begunFrom fresh cs
+  pub transfers : map item (finished (reading .segments) (reading .last)) ≡ map itemOf (listed (endedOf (fates cs)))
+  pub packets : map entries (finished (reading .segments) (reading .last)) ≡ map armedBy (listed (endedOf (fates cs)))
+  pub firsts : FirstsOf (reading .segments) (brokenOf (fates cs))
+
+-- "each started transfer ended with a count": then the record has no count, and its reading is the transfers begun.
+pub record Unbroken (f : File) (cs : List Call) : Type 0 where
+  pub record-is : List Entry
+  pub is : wireRecord f cs ≡ map entry record-is
+  pub reading : PlainReading record-is
   pub transfers : map item (reading .parts) ≡ map itemOf (listed (begunFrom fresh cs))
   pub packets : map entries (reading .parts) ≡ map armedBy (listed (begunFrom fresh cs))
 
--- A list of calls that meets the premises and has a given record.
+-- A list of calls that meets the premises, without a failure, and has a given record.
 pub record ComesFrom (f : File) (r : List Entry) : Type 0 where
   pub calls : List Call
   pub typed : AllTyped calls
   pub premises : Premises f calls
-  pub is : recordFrom f fresh calls ≡ r
+  pub unbroken : brokenOf (fates calls) ≡ []
+  pub is : wireRecord f calls ≡ map entry r
 
 -- The writer left the record's bytes, head first; past them the record lent (l) is as it was.
 pub record Written (f : File) (cs : List Call) (l l′ : List ℕ) (n : ℕ) : Type 0 where
-  pub bytes : take n l′ ≡ recordOf (recordFrom f fresh cs)
+  pub bytes : take n l′ ≡ recordOf (wireRecord f cs)
   pub rest : drop n l′ ≡ drop n l
 
--- The reader accepts bytes s, counts the transfers begun, and its cursor hands out the items of the record's one reading.
+-- The reader accepts bytes s, counts the transfers that ended with a count, and its cursor hands out the items of the record's one reading.
 pub record ReadBack (f : File) (cs : List Call) (s : List ℕ) : Type 0 where
   pub recorded : Recorded f cs
-  pub count : checkOf s ≡ Transfers (length (listed (begunFrom fresh cs)))
-  pub items : itemsFrom (length (listed (begunFrom fresh cs))) s firstAt ≡ itemsFor (recorded .reading .parts) firstAt
+  pub count : checkOf s ≡ Transfers (length (listed (endedOf (fates cs))))
+  pub items : itemsFrom (moves (recorded .reading .segments) (recorded .reading .last)) s firstAt ≡ answersFor (recorded .reading .segments) (recorded .reading .last) firstAt
 
--- Whatever the registers hold at first (f). `AllTyped` says only that the numbers are those of the program's types. Code, contract and theorem hang together so:
--- each function of the driver, writer and reader is proved equal to a definition (its `ensures`), and `call`, `appendOf`, `checkOf` and `itemAt` are these.
---   recorded: the record lies in the grammar, has one reading, and that is the transfers begun, each cut at its begin's packet size and type.
---   comes: every record of the grammar comes from a list of calls that meets the premises.
---   answered: what begin and step answer that they armed is the record. No premise.
---   written: the writer, called as document 01 says and refused nowhere, leaves exactly the record's bytes. No premise.
---   room: it is refused nowhere if the record lent has room and every begin and step was lent 4,096 bytes of packet memory.
---   read: the reader reads them.
+-- Term 3. `answered`, `written` and `room` have no premise.
 pub record Term3 : Type 0 where
   pub recorded : (f : File) (cs : List Call) → AllTyped cs → Premises f cs → Recorded f cs
-  pub comes : (f : File) (r : List Entry) → Reading r → ComesFrom f r
-  pub answered : (f : File) (cs : List Call) → AllTyped cs → recordFrom f fresh cs ≡ answeredFrom fresh cs
-  pub written : (f : File) (cs : List Call) → AllTyped cs → (l m l′ : List ℕ) (n : ℕ) → keptAll l m cs ≡ kept l′ n → Written f cs l l′ n
-  pub room : (cs : List Call) → AllTyped cs → AllLent cs → (l m : List ℕ) → length m ≡ 4096 → length (recordOf (answeredFrom fresh cs)) ≤ length l → keptAll l m cs ≡ refused → ⊥
-  pub read : (f : File) (cs : List Call) → AllTyped cs → Premises f cs → ReadBack f cs (recordOf (recordFrom f fresh cs))
+  pub unbroken : (f : File) (cs : List Call) → AllTyped cs → Premises f cs → brokenOf (fates cs) ≡ [] → Unbroken f cs
+  pub comes : (f : File) (r : List Entry) → PlainReading r → ComesFrom f r
+  pub answered : (f : File) (cs : List Call) → AllTyped cs → wireRecord f cs ≡ answeredFrom fresh cs
+  pub written : (f : File) (cs : List Call) → AllTyped cs → (l : List ℕ) (ms : ℕ → List ℕ) (l′ : List ℕ) (n : ℕ) → keptAll l ms cs ≡ kept l′ n → Written f cs l l′ n
+  pub room : (cs : List Call) → AllTyped cs → AllLent cs → (l : List ℕ) (ms : ℕ → List ℕ) → ((i : ℕ) → length (ms i) ≡ 4096) → length (recordOf (answeredFrom fresh cs)) ≤ length l → keptAll l ms cs ≡ refused → ⊥
+  pub read : (f : File) (cs : List Call) → AllTyped cs → Premises f cs → ReadBack f cs (recordOf (wireRecord f cs))

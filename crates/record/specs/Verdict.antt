@@ -1,63 +1,96 @@
--- What the check of a record says of its bytes, in the grammar's terms.
+-- What the check of a record says of its bytes, in the grammar's terms, in versions 1 and 2.
 use mathlib.Core.Path.{_≡_}
+use mathlib.Core.Bool.{Bool, true, false}
 use mathlib.Core.List.{List, [], _∷_, _++_}
 use Prim.Native.Nat.{ℕ}
 use lib.ListN.{length}
-use Rattle.record.specs.Grammar.{Entry, Reading}
-use Rattle.record.specs.Bytes.{headBytes, encode, recordOf}
-use Rattle.record.specs.Scan.{InRange, AllInRange}
-use Rattle.record.specs.declared.refusal.Refusal.the-variants.{Mark, Field, Grammar}
+use Rattle.record.specs.Segments.{Element, entry, failed, Reading, finished}
+use Rattle.record.specs.Bytes.{headFor, encodeElement, encodeElements}
+use Rattle.record.specs.Place.{ElementInRange}
+use Rattle.record.specs.declared.refusal.Refusal.the-variants.{Mark as badMark, Field, Grammar}
 use Rattle.record.specs.declared.reader.CheckAnswer.{CheckAnswer}
 use Rattle.record.specs.declared.reader.CheckAnswer.the-variants.{Transfers, Refused}
 
--- A grammatical end is possible after these entries.
-pub record Viable (es : List Entry) : Type 0 where
-  pub after : List Entry
-  pub reading : Reading (es ++ after)
+-- The two versions.
+abbrev pub versionNumber : Bool → ℕ
+versionNumber false = 1
+versionNumber true = 2
 
--- "18 mark or version": the bytes don't begin with the head.
+-- A record of a version.
+unfoldable pub recordIn : Bool → List Element → List ℕ
+recordIn two ms = headFor (versionNumber two) ++ encodeElements ms
+
+-- An entry of a version: 0x58 is one of version 2's alone.
+abbrev pub OfVersion : Bool → Element → Type 0
+OfVersion two (entry e) = Unit {0}
+OfVersion two (failed m) = two ≡ true
+
+-- With its fields in their ranges.
+abbrev pub Ranged : Bool → Element → Type 0
+Ranged two m = ElementInRange m × OfVersion two m
+
+-- Those of a list.
+abbrev pub AllRanged : Bool → List Element → Type 0
+AllRanged two [] = Unit {0}
+AllRanged two (m ∷ ms) = Ranged two m × AllRanged two ms
+
+-- A record of a version's grammar: version 1 has no counts.
+pub record Reads (two : Bool) (ms : List Element) : Type 0 where
+  pub reading : Reading ms
+  pub plain : two ≡ false → reading .segments ≡ []
+
+-- A grammatical end is possible after these entries.
+pub record Viable (two : Bool) (ms : List Element) : Type 0 where
+  pub after : List Element
+  pub reads : Reads two (ms ++ after)
+
+-- "18 mark or version": the bytes begin with the head of no version.
 pub record Unmarked (s : List ℕ) : Type 0 where
-  pub no-head : (r : List ℕ) → s ≡ headBytes ++ r → ⊥
+  pub no-head : (two : Bool) (r : List ℕ) → s ≡ headFor (versionNumber two) ++ r → ⊥
 
 -- "19 cut, of unknown kind or a field outside its range": after entries with a possible end come bytes that begin with no entry.
 pub record NoEntry (s : List ℕ) : Type 0 where
-  pub es : List Entry
+  pub two : Bool
+  pub ms : List Element
   pub rest : List ℕ
-  pub is : s ≡ recordOf es ++ rest
-  pub ranged : AllInRange es
-  pub viable : Viable es
+  pub is : s ≡ recordIn two ms ++ rest
+  pub ranged : AllRanged two ms
+  pub viable : Viable two ms
   pub more : rest ≡ [] → ⊥
-  pub none : (e : Entry) (r : List ℕ) → InRange e → rest ≡ encode e ++ r → ⊥
+  pub none : (m : Element) (r : List ℕ) → Ranged two m → rest ≡ encodeElement m ++ r → ⊥
 
--- "20 the first after which no grammatical end is possible"
+-- "20 the first after which no grammatical end is possible", a count that is wrong among them.
 pub record NoWayOn (s : List ℕ) : Type 0 where
-  pub es : List Entry
-  pub e : Entry
+  pub two : Bool
+  pub ms : List Element
+  pub m : Element
   pub rest : List ℕ
-  pub is : s ≡ recordOf es ++ (encode e ++ rest)
-  pub ranged : AllInRange es
-  pub last-ranged : InRange e
-  pub viable : Viable es
-  pub stuck : Viable (es ++ (e ∷ [])) → ⊥
+  pub is : s ≡ recordIn two ms ++ (encodeElement m ++ rest)
+  pub ranged : AllRanged two ms
+  pub last-ranged : Ranged two m
+  pub viable : Viable two ms
+  pub stuck : Viable two (ms ++ (m ∷ [])) → ⊥
 
 -- "at the end, 20 an unfinished transfer"
 pub record Unfinished (s : List ℕ) : Type 0 where
-  pub es : List Entry
-  pub is : s ≡ recordOf es
-  pub ranged : AllInRange es
-  pub viable : Viable es
-  pub unread : Reading es → ⊥
+  pub two : Bool
+  pub ms : List Element
+  pub is : s ≡ recordIn two ms
+  pub ranged : AllRanged two ms
+  pub viable : Viable two ms
+  pub unread : Reads two ms → ⊥
 
 -- A record of the grammar.
 pub record Whole (s : List ℕ) : Type 0 where
-  pub es : List Entry
-  pub is : s ≡ recordOf es
-  pub reading : Reading es
+  pub two : Bool
+  pub ms : List Element
+  pub is : s ≡ recordIn two ms
+  pub reads : Reads two ms
 
--- The answer that the bytes deserve.
+-- The answer that the bytes deserve: the count is that of the transfers that didn't fail.
 pub data Verdict (s : List ℕ) (a : CheckAnswer) : Type 0 where
-  mark : Unmarked s → a ≡ Refused Mark → Verdict s a
+  mark : Unmarked s → a ≡ Refused badMark → Verdict s a
   field : NoEntry s → a ≡ Refused Field → Verdict s a
   grammar : NoWayOn s → a ≡ Refused Grammar → Verdict s a
   unfinished : Unfinished s → a ≡ Refused Grammar → Verdict s a
-  whole : (w : Whole s) → a ≡ Transfers (length (w .reading .parts)) → Verdict s a
+  whole : (w : Whole s) → a ≡ Transfers (length (finished (w .reads .reading .segments) (w .reads .reading .last))) → Verdict s a

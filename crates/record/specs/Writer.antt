@@ -8,12 +8,14 @@ use lib.Seq.{sets}
 use lib.Dec.{eqb, leb}
 use Rattle.transfers.specs.Memory.{memoryFits}
 use Rattle.transfers.specs.declared.answers.Armed.{Armed}
+use Rattle.transfers.specs.declared.answers.OptionEntries.{OptionEntries}
+use Rattle.transfers.specs.declared.answers.OptionEntries.the-variants.{Some as someCount, None as noCount}
 use Rattle.transfers.specs.declared.answers.OptionSetup.{OptionSetup}
 use Rattle.transfers.specs.declared.answers.OptionSetup.the-variants.{Some as someSetup, None as noSetup}
 use Rattle.transfers.specs.declared.answers.OptionOut.{OptionOut}
 use Rattle.transfers.specs.declared.answers.OptionOut.the-variants.{Some as someOut, None as noOut}
 use Rattle.record.specs.Armed.{entriesArmed}
-use Rattle.record.specs.Bytes.{headBytes, encodeAll}
+use Rattle.record.specs.Bytes.{headBytes, encodeAll, failedBytes}
 use Rattle.record.specs.declared.refusal.Refusal.{Refusal}
 use Rattle.record.specs.declared.refusal.Refusal.the-variants.{LentMemory, Field, Room}
 use Rattle.record.specs.declared.writer.AppendAnswer.{AppendAnswer}
@@ -37,9 +39,18 @@ armedInRange armed = setupInRange (armed .setup) && (outInRange (armed .first) &
 abbrev pub headOf : ℕ → List ℕ
 headOf used = cond (eqb used 0) headBytes []
 
--- The bytes that are appended.
+-- Head and entries that are appended.
 unfoldable pub appended : Armed → List ℕ → ℕ → List ℕ
 appended armed pm used = headOf used ++ encodeAll (entriesArmed pm armed)
+
+-- "written when a started transfer ends by 1 to 7 or 9 or is cancelled"
+abbrev pub countBytes : OptionEntries → List ℕ
+countBytes noCount = []
+countBytes (someCount n) = failedBytes n
+
+-- The bytes that are appended: head, entries, count.
+unfoldable pub toldBytes : Armed → OptionEntries → List ℕ → ℕ → List ℕ
+toldBytes armed failed pm used = appended armed pm used ++ countBytes failed
 
 -- What a call of the writer leaves: its answer, and every byte of the record.
 pub record Append : Type 0 where
@@ -58,9 +69,9 @@ appendIf true true false new l used = refusing Room l
 appendIf true true true new l used = record { answer = Used (used + length new); bytes = sets l used new }
 
 -- A call of the writer, on any armed answer, packet memory, record and used length.
-unfoldable pub appendOf : Armed → List ℕ → List ℕ → ℕ → Append
-appendOf armed pm l used =
-    appendIf (memoryFits pm) (armedInRange armed) (leb (used + length (appended armed pm used)) (length l)) (appended armed pm used) l used
+unfoldable pub appendOf : Armed → OptionEntries → List ℕ → List ℕ → ℕ → Append
+appendOf armed failed pm l used =
+    appendIf (memoryFits pm) (armedInRange armed) (leb (used + length (toldBytes armed failed pm used)) (length l)) (toldBytes armed failed pm used) l used
 
 -- The lengths of the entries: SETUP 10 bytes, OUT 6 and its own.
 abbrev pub setupSize : OptionSetup → ℕ
@@ -75,6 +86,11 @@ outSize (someOut x) = 6 + x .arm .length
 -- All that was armed.
 abbrev pub armedSize : Armed → ℕ
 armedSize armed = setupSize (armed .setup) + outSize (armed .first) + outSize (armed .second)
+
+-- A count: 5 bytes.
+abbrev pub countSize : OptionEntries → ℕ
+countSize noCount = 0
+countSize (someCount n) = 5
 
 -- The head's length, where it is written.
 abbrev pub headSize : ℕ → ℕ

@@ -4,7 +4,7 @@ use crate::look::look_at;
 ghost use mathlib.Core.Path.{_≡_};
 ghost use Prim.Native.Nat.{_+_, _≤_};
 ghost use lib.ListN.{length};
-ghost use Rattle.record.specs.Items.{firstAt, groupOf, groupAt, sentAt, itemAt};
+ghost use Rattle.record.specs.Items.{firstAt, groupOf, groupAt, sentAt, failedAt, itemAt};
 
 // The position of an item, or the end.
 pub struct Cursor {
@@ -31,6 +31,7 @@ pub struct BulkItem {
 pub enum ItemAnswer {
     Control(ControlItem),
     Bulk(BulkItem),
+    Failed(Cursor),
     End,
 }
 
@@ -66,6 +67,7 @@ fn packet_at(s: &[u8], p: Span) -> SpanTurn
             }
         }
         Look::Setup(_, _) => SpanTurn::Ended(p),
+        Look::Failed(_) => SpanTurn::Ended(p),
         Look::Bad => SpanTurn::Ended(p),
         Look::End => SpanTurn::Ended(p),
     }
@@ -105,8 +107,23 @@ fn sent_at(s: &[u8], at: usize) -> Span
             }
         }
         Look::Setup(_, _) => Span { at, count: 0 },
+        Look::Failed(_) => Span { at, count: 0 },
         Look::Bad => Span { at, count: 0 },
         Look::End => Span { at, count: 0 },
+    }
+}
+
+// A count above 0 stands here: the item before it failed.
+fn failed_at(s: &[u8], at: usize) -> bool
+    ensures { λ r. ⌜ r ≡ failedAt (now (s .entry)) at ⌝ }
+{
+    let l = look_at(s, at);
+    match l {
+        Look::Failed(m) => m != 0,
+        Look::Setup(_, _) => false,
+        Look::Out(_) => false,
+        Look::Bad => false,
+        Look::End => false,
     }
 }
 
@@ -117,7 +134,7 @@ pub fn first() -> Cursor
     Cursor { at: 5 }
 }
 
-// The item at a cursor, with the next cursor.
+// The item at a cursor, with the next cursor; of one that failed only the next cursor.
 pub fn item(s: &[u8], cursor: Cursor) -> ItemAnswer
     ensures { λ r. ⌜ r ≡ itemAt (now (s .entry)) (cursor .at) ⌝ }
 {
@@ -126,6 +143,10 @@ pub fn item(s: &[u8], cursor: Cursor) -> ItemAnswer
     match l {
         Look::Setup(address, _) => {
             let sent = sent_at(s, at + 10);
+            let after = sent.at;
+            if failed_at(s, after) {
+                return ItemAnswer::Failed(Cursor { at: after + 5 });
+            }
             ItemAnswer::Control(ControlItem {
                 address,
                 setup: at + 2,
@@ -135,6 +156,10 @@ pub fn item(s: &[u8], cursor: Cursor) -> ItemAnswer
         }
         Look::Out(x) => {
             let sent = group_at(s, at);
+            let after = sent.at;
+            if failed_at(s, after) {
+                return ItemAnswer::Failed(Cursor { at: after + 5 });
+            }
             ItemAnswer::Bulk(BulkItem {
                 address: x.address,
                 endpoint: x.endpoint,
@@ -143,6 +168,7 @@ pub fn item(s: &[u8], cursor: Cursor) -> ItemAnswer
                 next: Cursor { at: sent.at },
             })
         }
+        Look::Failed(_) => ItemAnswer::Failed(Cursor { at: at + 5 }),
         Look::Bad => ItemAnswer::End,
         Look::End => ItemAnswer::End,
     }

@@ -1,10 +1,10 @@
 // One entry of a record's bytes.
 use crate::flags::both;
-use crate::writer::VERSION;
+use crate::flags::either;
 ghost use mathlib.Core.Path.{_≡_};
 ghost use Prim.Native.Nat.{_+_, _*_, _<_, _≤_};
 ghost use lib.ListN.{length, drop};
-ghost use Rattle.record.specs.Reader.{headRight, lookSetup, fieldsFit, lookOut, look};
+ghost use Rattle.record.specs.Reader.{versionAt, headRight, lookSetup, fieldsFit, lookOut, lookFailed, look};
 
 // An OUT entry without its bytes.
 pub struct OutHead {
@@ -15,10 +15,11 @@ pub struct OutHead {
     pub length: u8,
 }
 
-// What stands at a position: a SETUP with address and wLength, an OUT packet, no entry, or nothing.
+// What stands at a position: a SETUP with address and wLength, an OUT packet, a failed transfer's count, no entry, or nothing.
 pub enum Look {
     Setup(u8, u16),
     Out(OutHead),
+    Failed(u32),
     Bad,
     End,
 }
@@ -38,8 +39,21 @@ pub(crate) fn head_right(s: &[u8]) -> bool
     let version = word(s[3], s[4]);
     both(
         s[0] == 0x57,
-        both(s[1] == 0x4C, both(s[2] == 0x47, version == VERSION)),
+        both(
+            s[1] == 0x4C,
+            both(s[2] == 0x47, either(version == 1, version == 2)),
+        ),
     )
+}
+
+// The version of a record's head; 0 where there is none.
+pub fn version(s: &[u8]) -> u16
+    ensures { λ r. ⌜ r ≡ versionAt (now (s .entry)) ⌝ }
+{
+    if s.len() < 5 {
+        return 0;
+    }
+    word(s[3], s[4])
 }
 
 fn look_setup(s: &[u8], at: usize) -> Look
@@ -101,6 +115,19 @@ fn look_out(s: &[u8], at: usize) -> Look
     })
 }
 
+// 0x58 and 32 bits.
+fn look_failed(s: &[u8], at: usize) -> Look
+    requires { ⌜ at < length (now s) ⌝ }
+    ensures { λ r. ⌜ r ≡ lookFailed (drop at (now (s .entry))) ⌝ }
+{
+    if s.len() - at < 5 {
+        return Look::Bad;
+    }
+    let low = word(s[at + 1], s[at + 2]);
+    let high = word(s[at + 3], s[at + 4]);
+    Look::Failed(low as u32 + high as u32 * 65536)
+}
+
 // The entry at a position.
 pub(crate) fn look_at(s: &[u8], at: usize) -> Look
     ensures { λ r. ⌜ r ≡ look (drop at (now (s .entry))) ⌝ }
@@ -114,6 +141,9 @@ pub(crate) fn look_at(s: &[u8], at: usize) -> Look
     }
     if kind == 0x4F {
         return look_out(s, at);
+    }
+    if kind == 0x58 {
+        return look_failed(s, at);
     }
     Look::Bad
 }

@@ -4,6 +4,15 @@ ghost use Prim.Native.Nat.{_+_, _/_, _%_, _≤_};
 ghost use lib.ListN.{length, take};
 ghost use Rattle.record.specs.Writer.{Put};
 
+// One byte.
+pub(crate) fn put_byte(bytes: &mut [u8], at: usize, a: u8) -> usize
+    requires { ⌜ at + 1 ≤ length (now bytes) ⌝ }
+    ensures { λ r. ⌜ Put (now (bytes .entry)) at (a ∷ []) (now (bytes .exit)) r ⌝ }
+{
+    bytes[at] = a;
+    at + 1
+}
+
 // Two bytes.
 pub(crate) fn put_pair(bytes: &mut [u8], at: usize, a: u8, b: u8) -> usize
     requires { ⌜ at + 2 ≤ length (now bytes) ⌝ }

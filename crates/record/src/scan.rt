@@ -4,9 +4,10 @@ use crate::flags::either;
 use crate::flags::same;
 use crate::look::OutHead;
 ghost use mathlib.Core.Path.{_≡_};
-ghost use Prim.Native.Nat.{_≤_};
+ghost use Prim.Native.Nat.{_+_, _≤_, _<_};
 ghost use lib.Dec.{leb};
 ghost use Rattle.record.specs.Scan.{bulkStart, controlStart, bulkNext, controlNext, feedSetup, feedOut, startsOut};
+ghost use Rattle.record.specs.Place.{mayEnd, feedFailed, runOn, lost};
 
 // Between items; after a SETUP: address and wLength; in a bulk group: address, endpoint, next PID, packet size, bytes so far; in a control's group: address, wLength, next PID, packet size, bytes so far.
 pub enum Scan {
@@ -166,4 +167,47 @@ pub(crate) fn starts_out(s: Scan, endpoint: u8) -> usize
         Scan::InBulk(_, _, _, _, _) => 0,
         Scan::InControl(_, _, _, _, _) => 0,
     }
+}
+
+fn may_end(s: Scan) -> bool
+    ensures { λ r. ⌜ r ≡ mayEnd s ⌝ }
+{
+    match s {
+        Scan::Between => true,
+        Scan::AfterSetup(_, _) => true,
+        Scan::InBulk(_, _, _, _, _) => false,
+        Scan::InControl(_, _, _, _, _) => false,
+    }
+}
+
+// A count of m, where the last item has `run` entries.
+pub(crate) fn feed_failed(s: Scan, run: usize, m: usize) -> OptionScan
+    ensures { λ r. ⌜ r ≡ feedFailed s run m ⌝ }
+{
+    if either(m == run, both(m == 0, may_end(s))) {
+        OptionScan::Some(Scan::Between)
+    } else {
+        OptionScan::None
+    }
+}
+
+// The entries of the last item after an entry that begins an item (1) or goes on (0).
+pub(crate) fn run_on(starts: usize, run: usize) -> usize
+    requires { ⌜ run < 0xFFFF_FFFF_FFFF_FFFF ⌝ }
+    ensures { λ r. ⌜ r ≡ runOn starts run ⌝ }
+{
+    if starts == 0 { run + 1 } else { 1 }
+}
+
+// The items that are left after a count of m.
+pub(crate) fn kept_items(m: usize, k: usize) -> usize
+    ensures { λ r. ⌜ r ≡ lost m k ⌝ }
+{
+    if m == 0 {
+        return k;
+    }
+    if k == 0 {
+        return 0;
+    }
+    k - 1
 }

@@ -1,5 +1,6 @@
 // The record's writer.
 use crate::flags::flag;
+use crate::put::put_byte;
 use crate::put::put_pair;
 use crate::put::put_part;
 use crate::put::put_word;
@@ -7,6 +8,7 @@ use crate::refusal::Refusal;
 use transfers::answers::Armed;
 use transfers::answers::ArmedOut;
 use transfers::answers::ArmedSetup;
+use transfers::answers::OptionEntries;
 use transfers::answers::OptionOut;
 use transfers::answers::OptionSetup;
 use transfers::memory::slot_address;
@@ -14,16 +16,17 @@ ghost use mathlib.Core.Path.{_≡_};
 ghost use mathlib.Core.Bool.{true};
 ghost use Prim.Native.Nat.{_+_, _≤_};
 ghost use lib.ListN.{length};
-ghost use Rattle.record.specs.Bytes.{encode, encodeAll};
+ghost use Rattle.record.specs.Bytes.{encode, encodeAll, failedBytes};
 ghost use Rattle.record.specs.Armed.{setupEntry, entryArmed, setupsArmed, outsArmed};
-ghost use Rattle.record.specs.Writer.{setupInRange, outInRange, armedInRange, headOf, appended, appendOf, setupSize, outSize, armedSize, headSize, Put, Appended};
+ghost use Rattle.record.specs.Writer.{setupInRange, outInRange, armedInRange, headOf, appended, countBytes, toldBytes, appendOf, setupSize, outSize, armedSize, countSize, headSize, Put, Appended};
 
 pub enum AppendAnswer {
     Used(usize),
     Refused(Refusal),
 }
 
-pub(crate) const VERSION: u16 = 1;
+// The version that is written; the reader takes 1 too.
+pub(crate) const VERSION: u16 = 2;
 
 fn setup_in_range(setup: OptionSetup) -> bool
     ensures { λ r. ⌜ r ≡ setupInRange setup ⌝ }
@@ -178,9 +181,54 @@ fn put_armed(bytes: &mut [u8], used: usize, armed: Armed, pm: &[u8]) -> usize
     put_out_if(bytes, c, second, pm)
 }
 
-// Appends what was armed to a record of which `used` bytes are used, and answers how many are used then.
-pub fn append(armed: Armed, pm: &[u8], bytes: &mut [u8], used: usize) -> AppendAnswer
-    ensures { λ r. ⌜ Appended (appendOf armed (now (pm .entry)) (now (bytes .entry)) used) r (now (bytes .exit)) ⌝ }
+fn count_size(failed: OptionEntries) -> usize
+    ensures { λ r. ⌜ (r ≡ countSize failed) × (r ≤ 5) ⌝ }
+{
+    match failed {
+        OptionEntries::None => 0,
+        OptionEntries::Some(_) => 5,
+    }
+}
+
+// A count: 0x58 and 32 bits, low byte first.
+fn put_failed(bytes: &mut [u8], at: usize, n: u32) -> usize
+    requires { ⌜ at + 5 ≤ length (now bytes) ⌝ }
+    ensures { λ r. ⌜ Put (now (bytes .entry)) at (failedBytes n) (now (bytes .exit)) r ⌝ }
+{
+    let low = (n % 65536) as u16;
+    let high = (n / 65536) as u16;
+    let a = put_byte(bytes, at, 0x58);
+    let b = put_word(bytes, a, low);
+    put_word(bytes, b, high)
+}
+
+fn put_failed_if(bytes: &mut [u8], at: usize, failed: OptionEntries) -> usize
+    requires { ⌜ at + countSize failed ≤ length (now bytes) ⌝ }
+    ensures { λ r. ⌜ Put (now (bytes .entry)) at (countBytes failed) (now (bytes .exit)) r ⌝ }
+{
+    match failed {
+        OptionEntries::None => at,
+        OptionEntries::Some(n) => put_failed(bytes, at, n),
+    }
+}
+
+fn put_told(bytes: &mut [u8], used: usize, armed: Armed, failed: OptionEntries, pm: &[u8]) -> usize
+    requires { ⌜ (used + (headSize used + armedSize armed + countSize failed) ≤ length (now bytes)) × (armedInRange armed ≡ true) × (length (now pm) ≡ 4096) ⌝ }
+    ensures { λ r. ⌜ Put (now (bytes .entry)) used (toldBytes armed failed (now (pm .entry)) used) (now (bytes .exit)) r ⌝ }
+{
+    let a = put_armed(bytes, used, armed, pm);
+    put_failed_if(bytes, a, failed)
+}
+
+// Appends what was armed, or the count of a transfer that failed, to a record of which `used` bytes are used, and answers how many are used then.
+pub fn append(
+    armed: Armed,
+    failed: OptionEntries,
+    pm: &[u8],
+    bytes: &mut [u8],
+    used: usize,
+) -> AppendAnswer
+    ensures { λ r. ⌜ Appended (appendOf armed failed (now (pm .entry)) (now (bytes .entry)) used) r (now (bytes .exit)) ⌝ }
 {
     if pm.len() != 4096 {
         return AppendAnswer::Refused(Refusal::LentMemory);
@@ -188,12 +236,12 @@ pub fn append(armed: Armed, pm: &[u8], bytes: &mut [u8], used: usize) -> AppendA
     if !armed_in_range(armed) {
         return AppendAnswer::Refused(Refusal::Field);
     }
-    let n = size(armed, used);
+    let n = size(armed, used) + count_size(failed);
     if bytes.len() < used {
         return AppendAnswer::Refused(Refusal::Room);
     }
     if bytes.len() - used < n {
         return AppendAnswer::Refused(Refusal::Room);
     }
-    AppendAnswer::Used(put_armed(bytes, used, armed, pm))
+    AppendAnswer::Used(put_told(bytes, used, armed, failed, pm))
 }

@@ -53,8 +53,8 @@ proved-table = record {
   sequence = refl;
   done = refl;
   early = refl;
-  sixteenth = λ t last address extras endpoint size interval log fits. rw (times address extras endpoint size interval log fits 15, free address extras endpoint size interval log fits);
-  again = λ t last address extras endpoint size interval log fits. rw (times address extras endpoint size interval log fits 15, free address extras endpoint size interval log fits);
+  sixteenth = λ d address extras endpoint size interval log fits. rw (times address extras endpoint size interval log fits 15, free address extras endpoint size interval log fits);
+  again = λ d address extras endpoint size interval log fits. rw (times address extras endpoint size interval log fits 15, free address extras endpoint size interval log fits);
 }
   where
     either : (t : TransferType) (P : TransferType → Type 0) → P FixedSize → P VariableSize → P t

@@ -1,11 +1,18 @@
 -- Outcomes one after another: writes in front of an outcome. Assumes nothing.
-use mathlib.Core.Path.{_≡_, refl, ap, subst, _∙_}
+use mathlib.Core.Path.{_≡_, refl, ap, ap₂, subst, _∙_}
 use mathlib.Core.List.{List}
-use Prim.Native.Nat.{ℕ}
+use Prim.Native.Nat.{ℕ, _+_}
+use native.Mathlib.Nat.{zero-add}
+use lib.ListN.{length}
+use Rattle.transfers.specs.declared.answers.OptionEntries.{OptionEntries}
+use Rattle.transfers.specs.declared.control.Stepped.{Stepped}
+use Rattle.transfers.specs.declared.driver.Driver.{Driver}
 use Rattle.transfers.specs.declared.progress.Progress.{Progress}
 use Rattle.transfers.specs.Log.{Write, Wrote}
 use Rattle.transfers.specs.Outcome.{Outcome, after}
 use Rattle.transfers.specs.Acts.{told, Tells, Moves, Acts}
+use Rattle.transfers.specs.Entries.{entriesStepped, failedStep}
+use Rattle.transfers.specs.Driver.{withTransfer}
 use Rattle.transfers.proofs.Logs.{then}
 
 -- A result that tells an outcome, with its writes put.
@@ -30,3 +37,13 @@ tells-at {l = l} {l′ = l′} {k = k} {r = r} e t = subst (λ (o : Outcome). Te
 
 pub moves-at : {o o′ : Outcome} {l l′ m : List ℕ} {k : ℕ} {r : Progress} → o ≡ o′ → Moves o l k r m l′ → Moves o′ l k r m l′
 moves-at {l = l} {l′ = l′} {m = m} {k = k} {r = r} e t = subst (λ (o : Outcome). Moves o l k r m l′) e t
+
+-- A step's result, lifted to the driver with the count of entries.
+pub lifted : (d : Driver) (o : Outcome) (p : Progress) (next : Driver) (n : ℕ) (x : OptionEntries) → p ≡ told o (0 + length (o .writes)) → next ≡ withTransfer d (p .next) n
+    → n ≡ entriesStepped (p .answer) (d .entries) (p .armed) → x ≡ failedStep (p .answer) (d .entries)
+    → _≡_ {A = Stepped} (record { next = next; answer = p .answer; toggle = p .toggle; armed = p .armed; failed = x; writes = p .writes })
+    (record { next = withTransfer d (o .next) (entriesStepped (o .answer) (d .entries) (o .armed)); answer = o .answer; toggle = o .toggle; armed = o .armed; failed = failedStep (o .answer) (d .entries); writes = length (o .writes) })
+lifted d o p next n x e h k f =
+    ap₂ (λ (u : Driver) (v : OptionEntries). record { next = u; answer = p .answer; toggle = p .toggle; armed = p .armed; failed = v; writes = p .writes }) (h ∙ ap (withTransfer d (p .next)) k) f
+    ∙ ap (λ (q : Progress). record { next = withTransfer d (q .next) (entriesStepped (q .answer) (d .entries) (q .armed)); answer = q .answer; toggle = q .toggle; armed = q .armed; failed = failedStep (q .answer) (d .entries); writes = q .writes }) e
+    ∙ ap (λ (w : ℕ). record { next = withTransfer d (o .next) (entriesStepped (o .answer) (d .entries) (o .armed)); answer = o .answer; toggle = o .toggle; armed = o .armed; failed = failedStep (o .answer) (d .entries); writes = w }) (zero-add (length (o .writes)))

@@ -13,28 +13,29 @@ use Rattle.transfers.specs.declared.control.Dropped.{Dropped}
 use Rattle.transfers.specs.Log.{logged}
 use Rattle.transfers.specs.Outcome.{Outcome}
 use Rattle.transfers.specs.Calls.{Cancelling, Beginning}
+use Rattle.transfers.specs.Entries.{entriesBegun, entriesStepped, entriesCancelled, failedStep, failedCancel}
 use Rattle.transfers.specs.Pipes.{freshPipes}
 
 -- "A fresh driver has no transfer, no pipe open and the last status absent."
 abbrev pub fresh : Driver
-fresh = record { transfer = Idle; pipes = freshPipes; last = Absent }
+fresh = record { transfer = Idle; entries = 0; pipes = freshPipes; last = Absent }
 
 -- Pipes and last status stay.
-abbrev pub withTransfer : Driver → Transfer → Driver
-withTransfer d t = record { transfer = t; pipes = d .pipes; last = d .last }
+abbrev pub withTransfer : Driver → Transfer → ℕ → Driver
+withTransfer d t n = record { transfer = t; entries = n; pipes = d .pipes; last = d .last }
 
 -- A begin's results: the answer with the next state, packet memory, and the log.
 pub record DidBegin (d : Driver) (o : Beginning) (l : List ℕ) (r : Begun) (m′ l′ : List ℕ) : Type 0 where
-  pub result : r ≡ record { next = withTransfer d (o .next); answer = o .answer; armed = o .armed; writes = length (o .writes) }
+  pub result : r ≡ record { next = withTransfer d (o .next) (entriesBegun (o .answer) (d .entries) (o .armed)); answer = o .answer; armed = o .armed; writes = length (o .writes) }
   pub memory : m′ ≡ o .memory
   pub log : l′ ≡ logged l 0 (o .writes)
 
 -- A step's results.
 pub record DidStep (d : Driver) (o : Outcome) (l : List ℕ) (r : Stepped) (m′ l′ : List ℕ) : Type 0 where
-  pub result : r ≡ record { next = withTransfer d (o .next); answer = o .answer; toggle = o .toggle; armed = o .armed; writes = length (o .writes) }
+  pub result : r ≡ record { next = withTransfer d (o .next) (entriesStepped (o .answer) (d .entries) (o .armed)); answer = o .answer; toggle = o .toggle; armed = o .armed; failed = failedStep (o .answer) (d .entries); writes = length (o .writes) }
   pub memory : m′ ≡ o .memory
   pub log : l′ ≡ logged l 0 (o .writes)
 
 -- What the driver's cancel hands back.
 abbrev pub dropped : Driver → Cancelling → Dropped
-dropped d o = record { next = withTransfer d (o .next); answer = o .answer; toggle = o .toggle }
+dropped d o = record { next = withTransfer d (o .next) (entriesCancelled (o .answer) (d .entries)); answer = o .answer; toggle = o .toggle; failed = failedCancel (o .answer) (d .entries) }

@@ -16,6 +16,7 @@ pub mod Calls
 pub mod Pipes
 pub mod Irq
 pub mod Detect
+pub mod Entries
 pub mod Driver
 pub mod Isolation
 pub mod Apart

@@ -109,7 +109,7 @@ openingPipe ps address extras endpoint size interval log =
 
 -- Other pipes, and the rest of the driver as it came.
 abbrev pub withPipes : Driver → Pipes → Driver
-withPipes d ps = record { transfer = d .transfer; pipes = ps; last = d .last }
+withPipes d ps = record { transfer = d .transfer; entries = d .entries; pipes = ps; last = d .last }
 
 -- The same for the driver.
 abbrev pub opened : Driver → Opening Pipes → Opening Driver

@@ -13,15 +13,13 @@ use Rattle.transfers.specs.declared.sample.Poll.{Poll}
 use Rattle.transfers.specs.declared.sample.Poll.the-variants.{Pending, Ready}
 use Rattle.transfers.specs.declared.sample.Found.the-variants.{Complete, Failed, Neither}
 use Rattle.transfers.specs.declared.driver.Driver.{Driver}
-use Rattle.transfers.specs.declared.driver.Transfer.{Transfer}
-use Rattle.transfers.specs.declared.host_controller.DeviceStatus.{DeviceStatus}
 use Rattle.transfers.specs.declared.pipes.OpenAnswer.{OpenAnswer}
 use Rattle.transfers.specs.declared.pipes.OpenAnswer.the-variants.{Pipe as OpenPipe, Refused as OpenRefused}
 use Rattle.transfers.specs.Refusal.{numberOf}
 use Rattle.transfers.specs.Memory.{logFits}
 use Rattle.transfers.specs.Sample.{classify}
 use Rattle.transfers.specs.State.{addressGood, endpointGood, sizeGood}
-use Rattle.transfers.specs.Pipes.{freshPipes, opening, closing}
+use Rattle.transfers.specs.Pipes.{freshPipes, withPipes, opening, closing}
 
 -- What the table has of a sample, and of an open: a number is that of the refusal.
 pub data Row : Type 0 where
@@ -57,8 +55,8 @@ module _ (address : ℕ) (extras : TransferExtras) (endpoint size interval : ℕ
     pub small : sizeGood size ≡ true
 
 -- All fifteen pipes opened on a driver that had none, by the same open.
-abbrev pub allOpen : Transfer → DeviceStatus → ℕ → TransferExtras → ℕ → ℕ → ℕ → List ℕ → Driver
-allOpen t last address extras endpoint size interval log = openTimes address extras endpoint size interval log 15 (record { transfer = t; pipes = freshPipes; last = last })
+abbrev pub allOpen : Driver → ℕ → TransferExtras → ℕ → ℕ → ℕ → List ℕ → Driver
+allOpen d address extras endpoint size interval log = openTimes address extras endpoint size interval log 15 (withPipes d freshPipes)
 
 -- The table, row by row.
 pub record ProvedTable : Type 0 where
@@ -83,10 +81,10 @@ pub record ProvedTable : Type 0 where
   -- "0x0100_0000 with 0x200: waiting."
   pub early : statusRow (classify 0x0100_0000 0x200) ≡ waiting
   -- "Sixteenth open: 10."
-  pub sixteenth : (t : Transfer) (last : DeviceStatus) (address : ℕ) (extras : TransferExtras) (endpoint size interval : ℕ) (log : List ℕ)
+  pub sixteenth : (d : Driver) (address : ℕ) (extras : TransferExtras) (endpoint size interval : ℕ) (log : List ℕ)
       → OpenFits address extras endpoint size interval log
-      → openRow (opening (allOpen t last address extras endpoint size interval log) address extras endpoint size interval log .answer) ≡ refused 10
+      → openRow (opening (allOpen d address extras endpoint size interval log) address extras endpoint size interval log .answer) ≡ refused 10
   -- "Close 4, open: 4."
-  pub again : (t : Transfer) (last : DeviceStatus) (address : ℕ) (extras : TransferExtras) (endpoint size interval : ℕ) (log : List ℕ)
+  pub again : (d : Driver) (address : ℕ) (extras : TransferExtras) (endpoint size interval : ℕ) (log : List ℕ)
       → OpenFits address extras endpoint size interval log
-      → openRow (opening (closing (allOpen t last address extras endpoint size interval log) (record { 0 = 4 }) .next) address extras endpoint size interval log .answer) ≡ pipe 4
+      → openRow (opening (closing (allOpen d address extras endpoint size interval log) (record { 0 = 4 }) .next) address extras endpoint size interval log .answer) ≡ pipe 4

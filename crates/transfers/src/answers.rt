@@ -23,6 +23,12 @@ pub enum CancelAnswer {
     Refused(Refusal),
 }
 
+// How many entries a transfer that failed or was cancelled had armed.
+pub enum OptionEntries {
+    Some(u32),
+    None,
+}
+
 // What a call armed, in order: at most one SETUP and two OUT packets.
 pub struct Armed {
     pub setup: OptionSetup,

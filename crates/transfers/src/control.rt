@@ -2,9 +2,15 @@
 use crate::answers::Armed;
 use crate::answers::BeginAnswer;
 use crate::answers::CancelAnswer;
+use crate::answers::OptionEntries;
 use crate::answers::StepAnswer;
 use crate::driver::Driver;
 use crate::driver::Transfer;
+use crate::entries::entries_begun;
+use crate::entries::entries_cancelled;
+use crate::entries::entries_stepped;
+use crate::entries::failed_cancel;
+use crate::entries::failed_step;
 use crate::host_controller::DataPhase;
 use crate::host_controller::DeviceStatus;
 use crate::host_controller::TransferExtras;
@@ -24,12 +30,13 @@ pub struct Begun {
     pub writes: usize,
 }
 
-// `toggle` is a bulk transfer's: the one to go on with after done, else the one that came in.
+// `toggle` is a bulk transfer's: the one to go on with after done, else the one that came in. `failed` is there where the step ended the transfer without a count.
 pub struct Stepped {
     pub next: Driver,
     pub answer: StepAnswer,
     pub toggle: bool,
     pub armed: Armed,
+    pub failed: OptionEntries,
     pub writes: usize,
 }
 
@@ -37,15 +44,17 @@ pub struct Dropped {
     pub next: Driver,
     pub answer: CancelAnswer,
     pub toggle: bool,
+    pub failed: OptionEntries,
 }
 
-fn with_transfer(d: Driver, t: Transfer) -> Driver
-    ensures { λ r. ⌜ r ≡ withTransfer d t ⌝ }
+fn with_transfer(d: Driver, t: Transfer, entries: u32) -> Driver
+    ensures { λ r. ⌜ r ≡ withTransfer d t entries ⌝ }
 {
     let pipes = d.pipes;
     let last = d.last;
     Driver {
         transfer: t,
+        entries: entries,
         pipes: pipes,
         last: last,
     }
@@ -57,6 +66,7 @@ impl Driver {
     {
         Driver {
             transfer: Transfer::Idle,
+            entries: 0,
             pipes: fresh_pipes(),
             last: DeviceStatus::Absent,
         }
@@ -81,7 +91,8 @@ impl Driver {
         let next = b.next;
         let answer = b.answer;
         let armed = b.armed;
-        self = with_transfer(self, next);
+        let entries = entries_begun(answer, self.entries, armed);
+        self = with_transfer(self, next, entries);
         Begun {
             next: self,
             answer: answer,
@@ -109,7 +120,8 @@ impl Driver {
         let next = b.next;
         let answer = b.answer;
         let armed = b.armed;
-        self = with_transfer(self, next);
+        let entries = entries_begun(answer, self.entries, armed);
+        self = with_transfer(self, next, entries);
         Begun {
             next: self,
             answer: answer,
@@ -147,7 +159,8 @@ impl Driver {
         let next = b.next;
         let answer = b.answer;
         let armed = b.armed;
-        self = with_transfer(self, next);
+        let entries = entries_begun(answer, self.entries, armed);
+        self = with_transfer(self, next, entries);
         Begun {
             next: self,
             answer: answer,
@@ -172,12 +185,15 @@ impl Driver {
         let next = p.next;
         let answer = p.answer;
         let armed = p.armed;
-        self = with_transfer(self, next);
+        let failed = failed_step(answer, self.entries);
+        let entries = entries_stepped(answer, self.entries, armed);
+        self = with_transfer(self, next, entries);
         Stepped {
             next: self,
             answer: answer,
             toggle: p.toggle,
             armed: armed,
+            failed: failed,
             writes: p.writes,
         }
     }
@@ -191,12 +207,15 @@ impl Driver {
         let next = p.next;
         let answer = p.answer;
         let armed = p.armed;
-        self = with_transfer(self, next);
+        let failed = failed_step(answer, self.entries);
+        let entries = entries_stepped(answer, self.entries, armed);
+        self = with_transfer(self, next, entries);
         Stepped {
             next: self,
             answer: answer,
             toggle: p.toggle,
             armed: armed,
+            failed: failed,
             writes: p.writes,
         }
     }
@@ -209,11 +228,14 @@ impl Driver {
         let c = crate::begin::cancel(t);
         let next = c.next;
         let answer = c.answer;
-        self = with_transfer(self, next);
+        let failed = failed_cancel(answer, self.entries);
+        let entries = entries_cancelled(answer, self.entries);
+        self = with_transfer(self, next, entries);
         Dropped {
             next: self,
             answer: answer,
             toggle: c.toggle,
+            failed: failed,
         }
     }
 }

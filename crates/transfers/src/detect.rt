@@ -99,6 +99,7 @@ impl Driver {
         ensures { λ r. ⌜ DidDetect (detecting self sie (now (log .entry))) (r .next) (r .answer) (r .writes) (now (log .entry)) (now (log .exit)) ⌝ }
     {
         let transfer = self.transfer;
+        let entries = self.entries;
         let pipes = self.pipes;
         let last = self.last;
         let d = detect_status(last, sie, log);
@@ -107,6 +108,7 @@ impl Driver {
         Detected {
             next: Driver {
                 transfer,
+                entries,
                 pipes,
                 last: next,
             },

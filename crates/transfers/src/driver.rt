@@ -4,8 +4,10 @@ use crate::host_controller::DeviceStatus;
 use crate::wire::Direction;
 use pool::async_pool::Pool;
 
+// `entries` is how many entries of the wire record the transfer under way has armed.
 pub struct Driver {
     pub transfer: Transfer,
+    pub entries: u32,
     pub pipes: Pipes,
     pub last: DeviceStatus,
 }

@@ -33,6 +33,9 @@ enum-told-2 c = search needs
 enum-told-3 : tie.Need-enum-told-3
 enum-told-3 c = search needs
 
+enum-told-4 : tie.Need-enum-told-4
+enum-told-4 c = search needs
+
 returns : tie.Need-returns
 unfolding groupOf
 returns c = rw (sym ((c .before .before .before .before .before .before .look-at) .ensures) ∙ (c .before .before .before .before .l) .given .1, (c .if1 .taken))
@@ -53,6 +56,10 @@ returns-5 : tie.Need-returns-5
 unfolding groupOf
 returns-5 c = rw (sym ((c .before .before .look-at) .ensures) ∙ (c .enum-told3) .given .1)
 
+returns-6 : tie.Need-returns-6
+unfolding groupOf
+returns-6 c = rw (sym ((c .before .before .look-at) .ensures) ∙ (c .enum-told4) .given .1)
+
 pub packet-at-spec : {M : Type 1} → statement M
 packet-at-spec =
     tie.close
@@ -66,8 +73,10 @@ packet-at-spec =
     enum-told
     enum-told-2
     enum-told-3
+    enum-told-4
     returns
     returns-2
     returns-3
     returns-4
-    returns-5)
+    returns-5
+    returns-6)

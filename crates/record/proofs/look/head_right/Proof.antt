@@ -28,6 +28,9 @@ shared-slice-read-both-2 c = search needs
 shared-slice-read-both-3 : tie.Need-shared-slice-read-both-3
 shared-slice-read-both-3 c = search needs
 
+either-requires : tie.Need-either-requires
+either-requires c κs = search needs
+
 both-requires : tie.Need-both-requires
 both-requires c κs = search needs
 
@@ -39,7 +42,7 @@ both-requires-3 c κs = search needs
 
 returns-2 : tie.Need-returns-2
 unfolding headRight
-returns-2 c = rw (le-leb _ _ (c .before .before .before .before .before .before .before .before .before .if1 .left), ← ((c .before .before .before .before .before .before .word) .ensures), ← ((c .before .before .both) .ensures .0), ← ((c .before .both2) .ensures .0), ← ((c .both3) .ensures .0))
+returns-2 c = rw (le-leb _ _ (c .before .before .before .before .before .before .before .before .before .before .if1 .left), ← ((c .before .before .before .before .before .before .before .word) .ensures), ← ((c .before .before .before .either) .ensures), ← ((c .before .before .both) .ensures .0), ← ((c .before .both2) .ensures .0), ← ((c .both3) .ensures .0))
 
 pub head-right-spec : {M : Type 1} → statement M
 head-right-spec =
@@ -52,6 +55,7 @@ head-right-spec =
     shared-slice-read-both
     shared-slice-read-both-2
     shared-slice-read-both-3
+    either-requires
     both-requires
     both-requires-2
     both-requires-3

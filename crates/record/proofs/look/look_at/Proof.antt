@@ -33,9 +33,16 @@ returns-3 : tie.Need-returns-3
 unfolding look
 returns-3 c = simp (length-drop, getD-drop, add-zero, ne-eqb (length (now ((c .before .before .before .before .before .before .args) .s)) - (c .before .before .before .before .before .before .args) .at) 0 (λ z. omega arith), ne-eqb _ _ (c .before .before .if2 .left), eq-eqb _ _ (c .before .if3 .taken)) ((c .look-out) .ensures)
 
+look-failed-requires : tie.Need-look-failed-requires
+look-failed-requires c κs = search needs
+
 returns-4 : tie.Need-returns-4
 unfolding look
-returns-4 c = simp (length-drop, getD-drop, add-zero, ne-eqb (length (now ((c .before .before .before .before .before .args) .s)) - (c .before .before .before .before .before .args) .at) 0 (λ z. omega arith), ne-eqb _ _ (c .before .if2 .left), ne-eqb _ _ (c .if3 .left))
+returns-4 c = simp (length-drop, getD-drop, add-zero, ne-eqb (length (now ((c .before .before .before .before .before .before .before .args) .s)) - (c .before .before .before .before .before .before .before .args) .at) 0 (λ z. omega arith), ne-eqb _ _ (c .before .before .before .if2 .left), ne-eqb _ _ (c .before .before .if3 .left), eq-eqb _ _ (c .before .if4 .taken)) ((c .look-failed) .ensures)
+
+returns-5 : tie.Need-returns-5
+unfolding look
+returns-5 c = simp (length-drop, getD-drop, add-zero, ne-eqb (length (now ((c .before .before .before .before .before .before .args) .s)) - (c .before .before .before .before .before .before .args) .at) 0 (λ z. omega arith), ne-eqb _ _ (c .before .before .if2 .left), ne-eqb _ _ (c .before .if3 .left), ne-eqb _ _ (c .if4 .left))
 
 pub look-at-spec : {M : Type 1} → statement M
 look-at-spec =
@@ -47,4 +54,6 @@ look-at-spec =
     returns-2
     look-out-requires
     returns-3
-    returns-4)
+    look-failed-requires
+    returns-4
+    returns-5)

@@ -6,6 +6,9 @@ use Rattle.transfers.proofs.driver.Driver.begin_control.Tie as tie
 begin-control-requires : tie.Need-begin-control-requires
 begin-control-requires c κs = search needs
 
+entries-begun-requires : tie.Need-entries-begun-requires
+entries-begun-requires c κs = search needs
+
 with-transfer-requires : tie.Need-with-transfer-requires
 with-transfer-requires c κs = search needs
 
@@ -13,8 +16,8 @@ same-length : tie.Need-same-length
 same-length c = search needs
 
 returns : tie.Need-returns
-returns c = let b = (c .before .before .before .before .begin-control) .ensures in record { result = simp ((c .with-transfer) .ensures, b .result); memory = b .memory; log = b .log }
+returns c = let b = (c .before .before .before .before .before .begin-control) .ensures in record { result = simp ((c .with-transfer) .ensures, (c .before .entries-begun) .ensures, b .result); memory = b .memory; log = b .log }
 
 pub begin-control-spec : {M : Type 1} → statement M
 begin-control-spec =
-    tie.close (tie.spec begin-control-requires with-transfer-requires same-length returns)
+    tie.close (tie.spec begin-control-requires entries-begun-requires with-transfer-requires same-length returns)

@@ -6,11 +6,17 @@ use Rattle.transfers.proofs.driver.Driver.cancel.Tie as tie
 cancel-requires : tie.Need-cancel-requires
 cancel-requires c κs = search needs
 
+failed-cancel-requires : tie.Need-failed-cancel-requires
+failed-cancel-requires c κs = search needs
+
+entries-cancelled-requires : tie.Need-entries-cancelled-requires
+entries-cancelled-requires c κs = search needs
+
 with-transfer-requires : tie.Need-with-transfer-requires
 with-transfer-requires c κs = search needs
 
 returns : tie.Need-returns
-returns c = simp ((c .with-transfer) .ensures, (c .before .cancel) .ensures)
+returns c = simp ((c .with-transfer) .ensures, (c .before .entries-cancelled) .ensures, (c .before .before .failed-cancel) .ensures, (c .before .before .before .cancel) .ensures)
 
 pub cancel-spec : {M : Type 1} → statement M
-cancel-spec = tie.close (tie.spec cancel-requires with-transfer-requires returns)
+cancel-spec = tie.close (tie.spec cancel-requires failed-cancel-requires entries-cancelled-requires with-transfer-requires returns)

@@ -53,21 +53,21 @@ setup-ne-group a lo hi r a′ e b [] l r′ q = absurd-eq (cc)
 setup-ne-group a lo hi r a′ e b (x ∷ xs) l r′ q = absurd-eq (cc)
 
 -- Two lists of parts of the grammar with one record are one list.
-pub one-reading : (ps qs : List Part) → AllFit ps → AllFit qs → written ps ≡ written qs → ps ≡ qs
-one-reading [] [] f g k = refl
-one-reading [] (q ∷ qs) f g k = nil-ne-part q (written qs) k
-one-reading (q ∷ qs) [] f g k = nil-ne-part q (written qs) (sym k)
-one-reading (bulk a e b xs l ∷ ps) (bulk a′ e′ b′ xs′ l′ ∷ qs) f g k =
+pub one-plain-reading : (ps qs : List Part) → AllFit ps → AllFit qs → written ps ≡ written qs → ps ≡ qs
+one-plain-reading [] [] f g k = refl
+one-plain-reading [] (q ∷ qs) f g k = nil-ne-part q (written qs) k
+one-plain-reading (q ∷ qs) [] f g k = nil-ne-part q (written qs) (sym k)
+one-plain-reading (bulk a e b xs l ∷ ps) (bulk a′ e′ b′ xs′ l′ ∷ qs) f g k =
     let s = same a e b xs l (written ps) a′ e′ b′ xs′ l′ (written qs) k in
-    let t : ps ≡ qs = one-reading ps qs (f .1) (g .1) (s .after) in
+    let t : ps ≡ qs = one-plain-reading ps qs (f .1) (g .1) (s .after) in
     cc (s .address, s .endpoint, s .pid, s .full, s .short, t)
-one-reading (bulk a e b xs l ∷ ps) (control a′ lo hi s ∷ qs) f g k = setup-ne-group a′ lo hi (sentEntries a′ s ++ written qs) a e b xs l (written ps) (sym k)
-one-reading (control a lo hi s ∷ ps) (bulk a′ e b xs l ∷ qs) f g k = setup-ne-group a lo hi (sentEntries a s ++ written ps) a′ e b xs l (written qs) k
-one-reading (control a lo hi none ∷ ps) (control a′ lo′ hi′ none ∷ qs) f g k =
-    let t : ps ≡ qs = one-reading ps qs (f .1) (g .1) (tail-eq-of-cons-eq k) in cc
-one-reading (control a lo hi none ∷ ps) (control a′ lo′ hi′ (some xs l) ∷ qs) f g k = absurd (not-group ps (f .1) a′ true xs l (written qs) (tail-eq-of-cons-eq k))
-one-reading (control a lo hi (some xs l) ∷ ps) (control a′ lo′ hi′ none ∷ qs) f g k = absurd (not-group qs (g .1) a true xs l (written ps) (sym (tail-eq-of-cons-eq k)))
-one-reading (control a lo hi (some xs l) ∷ ps) (control a′ lo′ hi′ (some xs′ l′) ∷ qs) f g k =
+one-plain-reading (bulk a e b xs l ∷ ps) (control a′ lo hi s ∷ qs) f g k = setup-ne-group a′ lo hi (sentEntries a′ s ++ written qs) a e b xs l (written ps) (sym k)
+one-plain-reading (control a lo hi s ∷ ps) (bulk a′ e b xs l ∷ qs) f g k = setup-ne-group a lo hi (sentEntries a s ++ written ps) a′ e b xs l (written qs) k
+one-plain-reading (control a lo hi none ∷ ps) (control a′ lo′ hi′ none ∷ qs) f g k =
+    let t : ps ≡ qs = one-plain-reading ps qs (f .1) (g .1) (tail-eq-of-cons-eq k) in cc
+one-plain-reading (control a lo hi none ∷ ps) (control a′ lo′ hi′ (some xs l) ∷ qs) f g k = absurd (not-group ps (f .1) a′ true xs l (written qs) (tail-eq-of-cons-eq k))
+one-plain-reading (control a lo hi (some xs l) ∷ ps) (control a′ lo′ hi′ none ∷ qs) f g k = absurd (not-group qs (g .1) a true xs l (written ps) (sym (tail-eq-of-cons-eq k)))
+one-plain-reading (control a lo hi (some xs l) ∷ ps) (control a′ lo′ hi′ (some xs′ l′) ∷ qs) f g k =
     let s = same a 0 true xs l (written ps) a′ 0 true xs′ l′ (written qs) (tail-eq-of-cons-eq k) in
-    let t : ps ≡ qs = one-reading ps qs (f .1) (g .1) (s .after) in
+    let t : ps ≡ qs = one-plain-reading ps qs (f .1) (g .1) (s .after) in
     cc (s .address, s .full, s .short, t, head-eq-of-cons-eq k)

@@ -1,0 +1,82 @@
+-- The transfers begun, and what became of each.
+use mathlib.Core.Path.{_≡_}
+use mathlib.Core.Bool.{cond}
+use mathlib.Core.List.{List, [], _∷_, _++_, map}
+use Rattle.transfers.specs.declared.answers.StepAnswer.{StepAnswer}
+use Rattle.transfers.specs.declared.answers.StepAnswer.the-variants.{Waiting, Done, Refused}
+use Rattle.transfers.specs.declared.driver.Driver.{Driver}
+use Rattle.transfers.specs.Entries.{ends}
+use Rattle.record.specs.Grammar.{Entry}
+use Rattle.record.specs.Segments.{Segment}
+use Rattle.record.specs.Calls.{Call, call, Note, began, stepped, cancelled, nothing, note}
+use Rattle.record.specs.Asked.{Begun, armedBy}
+use Rattle.record.specs.Told.{Live, none, live, nextLive}
+
+-- "The transfers begun get an item from each begin that the table doesn't refuse".
+abbrev pub begunBy : Note → List Begun
+begunBy (began x buf) = record { fields = x; buffer = buf } ∷ []
+begunBy (stepped a y now) = []
+begunBy cancelled = []
+begunBy nothing = []
+
+-- The transfers begun, in order.
+unfoldable pub begunFrom : Driver → List Call → List Begun
+begunFrom d [] = []
+begunFrom d (c ∷ cs) = let o = call d c in begunBy (note c (o .answer)) ++ begunFrom (o .next) cs
+
+-- A transfer "ended with a count", or it failed: it "ends by 1 to 7 or 9 or is cancelled".
+pub data Fate : Type 0 where
+  ended : Begun → Fate
+  broken : Begun → Fate
+
+-- The transfer under way.
+abbrev pub underWay : Live → List Begun
+underWay none = []
+underWay (live x buf) = record { fields = x; buffer = buf } ∷ []
+
+-- What a step's answer makes of it.
+abbrev pub stepFate : StepAnswer → List Begun → List Fate
+stepFate (Waiting again) gs = []
+stepFate (Done k) gs = map ended gs
+stepFate (Refused why) gs = cond (ends why) (map broken gs) []
+
+-- The same of a call.
+abbrev pub fate : Note → List Begun → List Fate
+fate (began x buf) gs = []
+fate (stepped a y now) gs = stepFate a gs
+fate cancelled gs = map broken gs
+fate nothing gs = []
+
+-- The fates, in order.
+unfoldable pub fatesFrom : Live → Driver → List Call → List Fate
+fatesFrom l d [] = []
+fatesFrom l d (c ∷ cs) = let o = call d c in let k = note c (o .answer) in fate k (underWay l) ++ fatesFrom (nextLive k l) (o .next) cs
+
+-- Whose they are.
+abbrev pub allOf : List Fate → List Begun
+allOf [] = []
+allOf (ended g ∷ fs) = g ∷ allOf fs
+allOf (broken g ∷ fs) = g ∷ allOf fs
+
+-- "the transfers that ended with a count"
+abbrev pub endedOf : List Fate → List Begun
+endedOf [] = []
+endedOf (ended g ∷ fs) = g ∷ endedOf fs
+endedOf (broken g ∷ fs) = endedOf fs
+
+-- Those that failed.
+abbrev pub brokenOf : List Fate → List Begun
+brokenOf [] = []
+brokenOf (ended g ∷ fs) = brokenOf fs
+brokenOf (broken g ∷ fs) = g ∷ brokenOf fs
+
+-- Entries are the first of a transfer's.
+abbrev pub FirstOf : List Entry → Begun → Type 0
+FirstOf es g = (rest : List Entry) × (es ++ rest ≡ armedBy g)
+
+-- "the entries counted are the first of their own transfer's", count by count.
+abbrev pub FirstsOf : List Segment → List Begun → Type 0
+FirstsOf [] [] = Unit {0}
+FirstsOf [] (g ∷ gs) = ⊥
+FirstsOf (s ∷ ss) [] = ⊥
+FirstsOf (s ∷ ss) (g ∷ gs) = FirstOf (s .first) g × FirstsOf ss gs
