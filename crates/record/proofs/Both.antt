@@ -1,4 +1,4 @@
--- Two tests that hold together.
+-- Two tests that hold together, and what cannot be.
 -- Assumes nothing.
 use mathlib.Core.Path.{_≡_, refl}
 use mathlib.Core.Bool.{Bool, true, false, _&&_, Bool·beq}
@@ -17,3 +17,7 @@ and-right false b h = absurd (let z : _≡_ {A = ℕ} 0 1 = cc in omega arith)
 pub same-true : (b : Bool) → b ≡ Bool·beq true b
 same-true true = refl
 same-true false = refl
+
+-- Anything from 0 being 1.
+pub absurd-eq {ℓ} : {A : Type ℓ} → _≡_ {A = ℕ} 0 1 → A
+absurd-eq e = absurd (omega arith)

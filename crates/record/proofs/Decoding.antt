@@ -20,6 +20,7 @@ use Rattle.record.specs.declared.look.Look.the-variants.{Setup, Out, Fai
 use Rattle.record.specs.declared.reader.Progress.{Progress}
 use Rattle.record.specs.Verdict.{OfVersion}
 use Rattle.record.proofs.Looking.{OutFits}
+use Rattle.record.proofs.Puts.{countHalves, count-halves}
 
 -- What the reader sees of an entry.
 abbrev pub lookOf : Entry → Look
@@ -70,25 +71,28 @@ value-back n =
     ap₂ (λ (x y : ℕ). x + y * 65536) a b ∙ c
 
 -- What the reader sees of an entry of version 2.
-abbrev pub lookMark : Element → Look
-lookMark (entry e) = lookOf e
-lookMark (failed m) = Failed m
+abbrev pub lookElement : Element → Look
+lookElement (entry e) = lookOf e
+lookElement (failed m) = Failed m
 
 pub see-failed : (m : ℕ) (post : List ℕ) → look (failedBytes m ++ post) ≡ Failed m
 unfolding look lookFailed
-see-failed m post =
-    let l : List ℕ = failedBytes m ++ post in
-    rw (ne-eqb (length l) 0 (λ (z : length l ≡ 0). omega arith), le-leb 5 (length l) (omega arith)) (ap Failed (value-back m))
+see-failed m post = ap (λ (l : List ℕ). look (l ++ post)) (count-halves m) ∙ halves-seen
+  where
+    halves-seen : look (countHalves m ++ post) ≡ Failed m
+    halves-seen =
+        let l : List ℕ = countHalves m ++ post in
+        rw (ne-eqb (length l) 0 (λ (z : length l ≡ 0). omega arith), le-leb 5 (length l) (omega arith)) (ap Failed (value-back m))
 
-pub look-mark : (m : Element) (post : List ℕ) → ElementInRange m → look (encodeElement m ++ post) ≡ lookMark m
-look-mark (entry e) post h = look-encode e post h
-look-mark (failed m) post h = see-failed m post
+pub look-element : (m : Element) (post : List ℕ) → ElementInRange m → look (encodeElement m ++ post) ≡ lookElement m
+look-element (entry e) post h = look-encode e post h
+look-element (failed m) post h = see-failed m post
 
-pub drop-mark : (m : Element) (post : List ℕ) → drop (length (encodeElement m)) (encodeElement m ++ post) ≡ post
-drop-mark m post = drop-append-seam (encodeElement m) post
+pub drop-element : (m : Element) (post : List ℕ) → drop (length (encodeElement m)) (encodeElement m ++ post) ≡ post
+drop-element m post = drop-append-seam (encodeElement m) post
 
 turn-look : (two : Bool) (m : Element) (p : Progress) → OfVersion two m
-    → turnLook two (lookMark m) p ≡ goOn (feedElement (p .scan) (p .run) m) (p .at + length (encodeElement m)) (runAfter (p .scan) (p .run) m) (countAfter (p .scan) (p .count) m)
+    → turnLook two (lookElement m) p ≡ goOn (feedElement (p .scan) (p .run) m) (p .at + length (encodeElement m)) (runAfter (p .scan) (p .run) m) (countAfter (p .scan) (p .count) m)
 turn-look two (entry (setup a (four b0 b1 b2 b3) (four b4 b5 b6 b7))) p v = refl
 turn-look two (entry (out a e b last l)) p v =
     let z : 6 + length l ≡ length (encode (out a e b last l)) = omega arith in
@@ -97,10 +101,10 @@ turn-look two (entry (out a e b last l)) p v =
 turn-look two (failed m) p v = ap (λ (b : Bool). turnLook b (Failed m) p) v
 
 -- The turn at an entry's encoding feeds the entry.
-pub turn-mark : (s : List ℕ) (two : Bool) (p : Progress) (m : Element) (post : List ℕ) → drop (p .at) s ≡ encodeElement m ++ post → ElementInRange m → OfVersion two m
+pub turn-element : (s : List ℕ) (two : Bool) (p : Progress) (m : Element) (post : List ℕ) → drop (p .at) s ≡ encodeElement m ++ post → ElementInRange m → OfVersion two m
     → turnOf s two p ≡ goOn (feedElement (p .scan) (p .run) m) (p .at + length (encodeElement m)) (runAfter (p .scan) (p .run) m) (countAfter (p .scan) (p .count) m)
 unfolding turnOf
-turn-mark s two p m post q h v = ap (λ (l : List ℕ). turnLook two (look l) p) q ∙ ap (λ (y : Look). turnLook two y p) (look-mark m post h) ∙ turn-look two m p v
+turn-element s two p m post q h v = ap (λ (l : List ℕ). turnLook two (look l) p) q ∙ ap (λ (y : Look). turnLook two y p) (look-element m post h) ∙ turn-look two m p v
 
 -- ---- back
 
@@ -195,7 +199,8 @@ failed-decoded l b k h =
       rest = drop 5 l;
       is =
           one-more l 0 _ (omega arith) (one-more l 1 _ (omega arith) (one-more l 2 _ (omega arith) (one-more l 3 _ (omega arith) (one-more l 4 (drop 5 l) (omega arith) refl))))
-          ∙ five k e₁ e₂ e₃ e₄;
+          ∙ five k e₁ e₂ e₃ e₄
+          ∙ ap (λ (x : List ℕ). x ++ drop 5 l) (sym (count-halves v));
     }
   where
     low : (x y : ℕ) → x < 256 → (x + y * 256) % 256 ≡ x

@@ -21,12 +21,12 @@ use Rattle.transfers.specs.declared.driver.Run.{Run}
 use Rattle.transfers.specs.declared.driver.Stage.{Stage}
 use Rattle.transfers.specs.declared.driver.Stage.the-variants.{Setup as setupStage, In as inStage, Out as outStage}
 use Rattle.transfers.specs.Memory.{lentFits}
-use Rattle.transfers.specs.Entries.{ends, word}
+use Rattle.transfers.specs.Entries.{ends}
 use Rattle.transfers.specs.Calls.{stepLent, stepOf, cancelOf, Beginning, beginRefusal, beginOr, beginControlOf, beginBulkInOf, beginBulkOutOf}
 use Rattle.transfers.specs.Driver.{fresh}
 use Rattle.record.specs.Grammar.{Entry, Bytes, Part, entries, written, Item, item}
 use Rattle.record.specs.Grammar as G
-use Rattle.record.specs.Segments.{Element, entry, failed, FirstPart, Segment, SegmentsFit, elements, Reading, finished}
+use Rattle.record.specs.Segments.{Element, entry, failed, FirstPart, Segment, SegmentsFit, elements, Reading, unfailed}
 use Rattle.record.specs.Wire.{File, performs, events, wire}
 use Rattle.record.specs.Armed.{lowBytes, highBytes, setupEntry}
 use Rattle.record.specs.Calls.{Begin, control, bulk, Call, begin, step, cancel, openPipe, closePipe, pollPipe, interrupt, detect, call, Note, began, stepped, cancelled, nothing, note, beginning}
@@ -34,12 +34,11 @@ use Rattle.record.specs.Asked.{Typed, AllTyped, Begun, armedBy, itemOf, 
 use Rattle.record.specs.Told.{Live, none, live, Watch, unarmed, nextLive, nextCount, nextWatch, stepFails, fails}
 use Rattle.record.specs.Premises.{PremisesFrom}
 use Rattle.record.specs.Record.{since, failure, recordFrom}
-use Rattle.record.specs.Fates.{begunBy, begunFrom, Fate, ended, broken, underWay, fate, fatesFrom, allOf, endedOf, brokenOf, FirstOf, FirstsOf}
+use Rattle.record.specs.Fates.{begunBy, begunFrom, Fate, ended, broken, underWay, fate, fatesFrom, allOf, endedOf, brokenOf, FirstOf, FirstsOf, Made}
 use Rattle.record.specs.Term3.{Premises, Recorded}
 use Rattle.record.proofs.Begins.{Checked, Room}
 use Rattle.record.proofs.Parts.{armedByAll, low-are, high-are, PartOf, Shape, sends, silent, shape}
 use Rattle.record.proofs.Inv.{dueSetup, IsControl, InLegal, OutLegal, StageInv, Inv, RoomOf, Splits}
-use Rattle.record.proofs.Few.{first-few}
 use Rattle.record.proofs.Placing.{none-first}
 use Rattle.record.proofs.OneReading.{one-reading}
 use Rattle.record.proofs.Forward.{call-kept}
@@ -64,19 +63,15 @@ one-front x (y ∷ so) r e =
     let h : y ≡ x = cc in
     ap₂ {C = List Entry} _∷_ h n
 
--- ---- a count fits 32 bits
-
-first-word : (es : List Entry) → FirstPart es → word (length es) ≡ length es
-first-word es k = let z = first-few es k in omega arith
-
--- ---- readings in version 2, from the front
+-- ---- readings, from the front
 
 -- A reading, its items those of the transfers that ended, and its counts' entries the first of those that failed.
 record Reads (fs : List Fate) (r : List Element) : Type 0 where
   reading : Reading r
-  transfers : map item (finished (reading .segments) (reading .last)) ≡ map itemOf (listed (endedOf fs))
-  packets : map entries (finished (reading .segments) (reading .last)) ≡ map armedBy (listed (endedOf fs))
+  transfers : map item (unfailed (reading .segments) (reading .last)) ≡ map itemOf (listed (endedOf fs))
+  packets : map entries (unfailed (reading .segments) (reading .last)) ≡ map armedBy (listed (endedOf fs))
   firsts : FirstsOf (reading .segments) (brokenOf fs)
+  made : Made fs r
 
 -- A whole transfer before the first count.
 part-before : (q : Part) (s : Segment) (ss : List Segment) (ps : List Part)
@@ -95,7 +90,7 @@ read-whole g fs r h e k = at (k .reading .segments) (k .reading .segments-fit) (
     ps : List Part
     ps = k .reading .last
 
-    at : (ss : List Segment) → SegmentsFit ss → elements ss ps ≡ r → map item (finished ss ps) ≡ map itemOf (listed (endedOf fs)) → map entries (finished ss ps) ≡ map armedBy (listed (endedOf fs))
+    at : (ss : List Segment) → SegmentsFit ss → elements ss ps ≡ r → map item (unfailed ss ps) ≡ map itemOf (listed (endedOf fs)) → map entries (unfailed ss ps) ≡ map armedBy (listed (endedOf fs))
         → FirstsOf ss (brokenOf fs) → Reads (ended g ∷ fs) (map entry (armedBy g) ++ r)
     at [] f w t p b = record {
       reading = record {
@@ -108,6 +103,7 @@ read-whole g fs r h e k = at (k .reading .segments) (k .reading .segments-fit) (
       transfers = rw e (ap₂ {C = List Item} _∷_ (h .item-is) t);
       packets = rw e (ap₂ {C = List (List Entry)} _∷_ (h .entries-are) p);
       firsts = b;
+      made = (r, refl, k .made);
     }
     at (s ∷ ss) f w t p b = record {
       reading = record {
@@ -120,6 +116,7 @@ read-whole g fs r h e k = at (k .reading .segments) (k .reading .segments-fit) (
       transfers = rw e (ap₂ {C = List Item} _∷_ (h .item-is) t);
       packets = rw e (ap₂ {C = List (List Entry)} _∷_ (h .entries-are) p);
       firsts = firsts-same (brokenOf fs) b;
+      made = (r, refl, k .made);
     }
       where
         firsts-same : (bs : List Begun) → FirstsOf (s ∷ ss) bs → FirstsOf (record { whole = q ∷ s .whole; first = s .first } ∷ ss) bs
@@ -130,7 +127,7 @@ read-ended : (g : Begun) (fs : List Fate) (r : List Element) → Shape g → Rea
 read-ended g fs r (sends h e) k = read-whole g fs r h (e (endedOf fs)) k
 read-ended g fs r (silent z e) k =
     subst (λ (v : List Entry). Reads (ended g ∷ fs) (map entry v ++ r)) (sym z)
-    (record { reading = k .reading; transfers = rw (e (endedOf fs)) (k .transfers); packets = rw (e (endedOf fs)) (k .packets); firsts = k .firsts })
+    (record { reading = k .reading; transfers = rw (e (endedOf fs)) (k .transfers); packets = rw (e (endedOf fs)) (k .packets); firsts = k .firsts; made = (r, ap (λ (v : List Entry). map entry v ++ r) (sym z), k .made) })
 
 read-broken : (g : Begun) (fs : List Fate) (so : List Entry) (r : List Element) → FirstPart so → FirstOf so g → Reads fs r → Reads (broken g ∷ fs) (map entry so ++ (failed (length so) ∷ r))
 read-broken g fs so r f o k = record {
@@ -144,6 +141,7 @@ read-broken g fs so r f o k = record {
   transfers = k .transfers;
   packets = k .packets;
   firsts = (o, k .firsts);
+  made = (so, r, o, refl, k .made);
 }
 
 -- ---- the transfer under way: the entries that it has armed and those that are due
@@ -228,14 +226,13 @@ module _ (so rest rest′ now : List Entry) (k : ℕ) (fs : List Fate) (M : List
 
   -- It fails.
   breaking : (l : Live) → Match l so rest k → Known l so → now ≡ [] → (l ≡ none → ⊥)
-      → ((so′ : List Entry) → so′ ≡ [] → Reads fs (map entry so′ ++ M)) → Reads (map broken (underWay l) ++ fs) (map entry so ++ (map entry now ++ (failed (word (k + length now)) ∷ M)))
+      → ((so′ : List Entry) → so′ ≡ [] → Reads fs (map entry so′ ++ M)) → Reads (map broken (underWay l) ++ fs) (map entry so ++ (map entry now ++ (failed (k + length now) ∷ M)))
   breaking none m c e z ih = absurd (z refl)
   breaking (live x buf) m c e z ih =
       let g : Begun = record { fields = x; buffer = buf } in
       let j = m .1 in
       let n : length now ≡ 0 = ap length e in
-      let a : k + length now ≡ length so = omega arith in
-      let w : word (k + length now) ≡ length so = ap word a ∙ first-word so (c .1) in
+      let w : k + length now ≡ length so = omega arith in
       subst (λ (v : List Element). Reads (broken g ∷ fs) (map entry so ++ v))
       (ap₂ {C = List Element} (λ (u : List Entry) (i : ℕ). map entry u ++ (failed i ∷ M)) (sym e) (sym w))
       (read-broken g fs so M (c .1) (rest, m .0) (ih [] refl))
@@ -339,7 +336,7 @@ unfolding recordFrom fatesFrom PremisesFrom
 reads-from [] l n w f d rest so k ty i m h =
     let e : so ≡ [] = subst (λ (u : Live). Match u so rest k) h m in
     subst (λ (u : List Entry). Reads [] (map entry u ++ [])) (sym e)
-    (record { reading = record { segments = []; last = []; segments-fit = tt; last-fit = tt; is = refl }; transfers = refl; packets = refl; firsts = tt })
+    (record { reading = record { segments = []; last = []; segments-fit = tt; last-fit = tt; is = refl }; transfers = refl; packets = refl; firsts = tt; made = refl })
 reads-from (c ∷ cs) l n w f d rest so k ty i m h =
     let o = call d c in
     let t = note c (o .answer) in
@@ -401,6 +398,7 @@ recorded f cs ty h =
       reading = r;
       only = λ v. one-reading (v .segments) (r .segments) (v .last) (r .last) (v .segments-fit) (r .segments-fit) (v .last-fit) (r .last-fit) (v .is ∙ sym (r .is));
       begun = fates-from cs none 0 unarmed f fresh [] ty refl h;
+      made = k .made;
       transfers = k .transfers;
       packets = k .packets;
       firsts = k .firsts;

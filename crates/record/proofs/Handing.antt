@@ -9,28 +9,25 @@ use lib.ListN.{length, drop, length-append, length-drop}
 use lib.Seq.{drop-drop, drop-append-seam}
 use lib.Dec.{eqb}
 use borrow.Author.Tests.{ne-eqb}
-use Rattle.record.specs.Grammar.{Four, four, Entry, setup, out, group, bytes, Sent, sentEntries, Part, bulk, control, entries, Fits, AllFit, written, sentBytes, Bytes}
+use Rattle.record.specs.Grammar.{Four, four, Entry, setup, out, group, bytes, Sent, sentEntries, Part, bulk, control, entries, Fits, AllFit, written, sentBytes}
 use Rattle.record.specs.Grammar as G
-use Rattle.record.specs.Segments.{Element, entry, failed, FirstPart, Segment, SegmentsFit, elements, finished}
+use Rattle.record.specs.Segments.{Element, entry, failed, FirstPart, Segment, SegmentsFit, elements}
 use Rattle.record.specs.Bytes.{encode, encodeAll, failedBytes, encodeElements}
 use Rattle.record.specs.Scan.{InRange, AllInRange}
-use Rattle.record.specs.Reader.{look, checkOf}
-use Rattle.record.specs.Items.{groupLook, groupOf, groupFrom, groupAt, sentLook, sentAt, failedLook, failedAt, unless, itemLook, itemAt, itemFor, nextOf, itemsFrom, itemsFor, answersFor, moves, Accepted}
-use Rattle.record.specs.Verdict.{recordIn, Verdict, mark, field, grammar, unfinished, whole}
-use Rattle.record.specs.declared.reader.CheckAnswer.the-variants.{Transfers}
+use Rattle.record.specs.Reader.{look}
+use Rattle.record.specs.Items.{groupLook, groupOf, groupFrom, groupAt, sentLook, sentAt, failedLook, failedAt, unless, itemLook, itemAt, itemFor, nextOf, itemsFrom, itemsFor, answersFor, moves}
+use Rattle.record.specs.Verdict.{recordIn, whole}
 use Rattle.record.specs.declared.look.Look.{Look}
 use Rattle.record.specs.declared.look.Look.the-variants.{Setup, Out, Failed, Bad, End}
 use Rattle.record.specs.declared.items.Span.{Span}
 use Rattle.record.specs.declared.items.SpanTurn.the-variants.{More}
 use Rattle.record.specs.declared.items.ItemAnswer.{ItemAnswer}
-use Rattle.record.specs.declared.items.ItemAnswer.the-variants.{Control, Bulk, Failed as failedItem}
+use Rattle.record.specs.declared.items.ItemAnswer.the-variants.{Control, Bulk, Failed as failedItem, End as noItem}
 use Rattle.record.proofs.Encoding.{encode-append, elements-append, elements-entries}
 use Rattle.record.proofs.Decoding.{lookOf, look-encode, drop-encode, see-failed}
 use Rattle.record.proofs.Spans.{group-more, group-ended}
-use Rattle.record.proofs.Verdicts.{part-ranged, first-ranged, deserved}
-
-absurd-eq {ℓ} : {A : Type ℓ} → _≡_ {A = ℕ} 0 1 → A
-absurd-eq e = absurd (omega arith)
+use Rattle.record.proofs.Verdicts.{part-ranged, first-ranged}
+use Rattle.record.proofs.Both.{absurd-eq}
 
 look-at : (s : List ℕ) (at : ℕ) (e : Entry) (post : List ℕ) → drop at s ≡ encode e ++ post → InRange e → look (drop at s) ≡ lookOf e
 look-at s at e post q h = ap look q ∙ look-encode e post h
@@ -38,7 +35,7 @@ look-at s at e post q h = ap look q ∙ look-encode e post h
 after-entry : (s : List ℕ) (n : ℕ) (e : Entry) (post : List ℕ) → drop n s ≡ encode e ++ post → drop (n + length (encode e)) s ≡ post
 after-entry s n e post q = sym (drop-drop (length (encode e)) n s) ∙ ap (λ (l : List ℕ). drop (length (encode e)) l) q ∙ drop-encode e post
 
-after-all : (s : List ℕ) (n : ℕ) (b post : List ℕ) → drop n s ≡ b ++ post → drop (n + length b) s ≡ post
+pub after-all : (s : List ℕ) (n : ℕ) (b post : List ℕ) → drop n s ≡ b ++ post → drop (n + length b) s ≡ post
 after-all s n b post q = sym (drop-drop (length b) n s) ∙ ap (λ (l : List ℕ). drop (length b) l) q ∙ drop-append-seam b post
 
 encode-some : (e : Entry) → 1 ≤ length (encode e)
@@ -399,27 +396,30 @@ first-quiet (e ∷ es) post k =
     let r = failedBytes (suc (length es)) ++ post in
     subst (λ (l : List ℕ). Quiet (look l)) (sym (cons-bytes e es r)) (part-quiet (k .part) (es ++ k .rest) e (encodeAll es ++ r) (k .fits) (sym (k .is)))
 
-end-quiet : Quiet (look [])
+look-nil : look [] ≡ End
 unfolding look
-end-quiet = tt
+look-nil = refl
 
-segment-bytes : (g : Segment) (gs : List Segment) (ps : List Part)
+end-quiet : Quiet (look [])
+end-quiet = subst Quiet (sym look-nil) tt
+
+pub segment-bytes : (g : Segment) (gs : List Segment) (ps : List Part)
     → encodeElements (elements (g ∷ gs) ps) ≡ encodeAll (written (g .whole) ++ g .first) ++ (failedBytes (length (g .first)) ++ encodeElements (elements gs ps))
 unfolding encodeElements
 segment-bytes g gs ps =
     elements-append (map entry (written (g .whole) ++ g .first)) (failed (length (g .first)) ∷ elements gs ps)
     ∙ ap (λ (l : List ℕ). l ++ (failedBytes (length (g .first)) ++ encodeElements (elements gs ps))) (sym (elements-entries (written (g .whole) ++ g .first)))
 
--- The cursor over a reading: its whole transfers in order, and one step over each that failed.
+-- The cursor over a reading: its whole transfers in order, one step over each that failed, and the end.
 pub handed-out : (gs : List Segment) (ps : List Part) (s : List ℕ) (at : ℕ) → SegmentsFit gs → AllFit ps → drop at s ≡ encodeElements (elements gs ps)
     → itemsFrom (moves gs ps) s at ≡ answersFor gs ps at
 handed-out [] ps s at f g q =
     let b = q ∙ sym (elements-entries (written ps)) ∙ sym (append-nil (encodeAll (written ps))) in
-    ap (λ (i : ℕ). itemsFrom i s at) (let x : length ps ≡ length ps + 0 = omega arith in x)
-    ∙ all-handed ps 0 [] s at g b end-quiet ∙ append-none ps at (at + length (encodeAll (written ps)))
-  where
-    append-none : (ps : List Part) (at n : ℕ) → itemsFor ps at ++ itemsFrom 0 s n ≡ itemsFor ps at
-    append-none ps at n = ap (λ (l : List ItemAnswer). itemsFor ps at ++ l) (none-left s n) ∙ append-nil (itemsFor ps at)
+    let end = at + length (encodeAll (written ps)) in
+    let z : itemAt s end ≡ noItem = item-at s end End (ap look (after-all s at (encodeAll (written ps)) [] b) ∙ look-nil) in
+    ap (λ (i : ℕ). itemsFrom i s at) (let x : suc (length ps) ≡ length ps + 1 = omega arith in x)
+    ∙ all-handed ps 1 [] s at g b end-quiet
+    ∙ ap (λ (l : List ItemAnswer). itemsFor ps at ++ l) (one-item 0 s end ∙ ap₂ {C = List ItemAnswer} _∷_ z (none-left s (nextOf (itemAt s end) end)))
 handed-out (g ∷ gs) ps s at f h q =
     let whole = encodeAll (written (g .whole)) in
     let first = encodeAll (g .first) in
@@ -445,20 +445,3 @@ pub drop-record : (two : Bool) (ms : List Element) → drop 5 (recordIn two ms) 
 unfolding recordIn
 drop-record true ms = refl
 drop-record false ms = refl
-
--- A record that the check accepts: its items are handed out from the first cursor on.
-pub accepted : (s : List ℕ) (n : ℕ) → Bytes s → checkOf s ≡ Transfers n → Accepted s n
-accepted s n b e = go (deserved s b)
-  where
-    go : Verdict s (checkOf s) → Accepted s n
-    go (mark u q) = absurd-eq (cc)
-    go (field u q) = absurd-eq (cc)
-    go (grammar u q) = absurd-eq (cc)
-    go (unfinished u q) = absurd-eq (cc)
-    go (whole u q) =
-        let r = u .reads .reading in
-        record {
-          record-is = u;
-          count = let z : n ≡ length (finished (r .segments) (r .last)) = cc in z;
-          items = handed-out (r .segments) (r .last) s 5 (r .segments-fit) (r .last-fit) (ap (λ (l : List ℕ). drop 5 l) (u .is) ∙ drop-record (u .two) (u .ms) ∙ ap encodeElements (sym (r .is)));
-        }

@@ -26,6 +26,7 @@ pub mod OneReading
 pub mod Placing
 pub mod Few
 pub mod Failing
+pub mod Bounded
 pub mod Counted
 pub mod Looking
 pub mod Turns
@@ -33,6 +34,7 @@ pub mod Decoding
 pub mod Verdicts
 pub mod Spans
 pub mod Handing
+pub mod Holding
 pub mod Keeping
 pub mod Roomy
 pub mod ReadBack

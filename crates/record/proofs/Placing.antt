@@ -12,18 +12,15 @@ use borrow.Author.Tests.{eqb-true, eq-eqb, ne-eqb}
 use Rattle.pool.proofs.Cases.{byCases}
 use Rattle.record.specs.Grammar.{four, Entry, setup, out, Part, bulk, control, entries, Fits, AllFit, written, PlainReading}
 use Rattle.record.specs.Grammar as G
-use Rattle.record.specs.Segments.{Element, entry, failed, FirstPart, Segment, SegmentFits, SegmentsFit, upTo, elements, Reading, finished}
+use Rattle.record.specs.Segments.{Element, entry, failed, FirstPart, Segment, SegmentFits, SegmentsFit, upTo, elements, Reading, unfailed}
 use Rattle.record.specs.Scan.{guard, feed, feedAll, starts, countAll, Ends, InRange, AllInRange}
 use Rattle.record.specs.Place.{mayEnd, countRight, feedElement, runOn, runAfter, lost, countAfter, Place, Reach, at, refused, reach, stepElement, feedElements, start, ElementInRange, ElementsInRange}
 use Rattle.record.specs.declared.scan.Scan.{Scan}
 use Rattle.record.specs.declared.scan.Scan.the-variants.{Between as between, AfterSetup as afterSetup, InBulk as inBulk, InControl as inControl}
 use Rattle.record.specs.declared.scan.OptionScan.{OptionScan}
 use Rattle.record.specs.declared.scan.OptionScan.the-variants.{Some as some, None as none}
-use Rattle.record.proofs.Both.{and-left, and-right}
+use Rattle.record.proofs.Both.{absurd-eq, and-left, and-right}
 use Rattle.record.proofs.Automaton.{plain-reader, feed-append}
-
-absurd-eq {ℓ} : {A : Type ℓ} → _≡_ {A = ℕ} 0 1 → A
-absurd-eq e = absurd (omega arith)
 
 -- ---- lists of parts and of entries
 
@@ -332,8 +329,8 @@ last-first es s n k = go n (k .long) (k .single)
 -- ---- entries of version 2 that were taken
 
 -- The whole transfers of segments.
-abbrev finishedIn : List Segment → ℕ
-finishedIn gs = length (finished gs [])
+abbrev unfailedIn : List Segment → ℕ
+unfailedIn gs = length (unfailed gs [])
 
 record Come (ms : List Element) (p : Place) : Type 0 where
   segments : List Segment
@@ -341,7 +338,7 @@ record Come (ms : List Element) (p : Place) : Type 0 where
   es : List Entry
   is : upTo segments (map entry es) ≡ ms
   last : Last es (p .scan) (p .run)
-  counted : p .count ≡ finishedIn segments + countAll (some between) es
+  counted : p .count ≡ unfailedIn segments + countAll (some between) es
 
 up-append : (gs : List Segment) (a b : List Element) → upTo gs (a ++ b) ≡ upTo gs a ++ b
 up-append [] a b = refl
@@ -357,12 +354,12 @@ segments-append : (gs hs : List Segment) → SegmentsFit gs → SegmentsFit hs �
 segments-append [] hs f g = g
 segments-append (x ∷ gs) hs f g = (f .0, segments-append gs hs (f .1) g)
 
-finished-join : (gs : List Segment) (g : Segment) → finishedIn (gs ++ (g ∷ [])) ≡ finishedIn gs + length (g .whole)
-finished-join [] g = let z = length-append (g .whole) [] in omega arith
-finished-join (x ∷ gs) g =
-    let a = length-append (x .whole) (finished (gs ++ (g ∷ [])) []) in
-    let b = length-append (x .whole) (finished gs []) in
-    let c = finished-join gs g in
+unfailed-join : (gs : List Segment) (g : Segment) → unfailedIn (gs ++ (g ∷ [])) ≡ unfailedIn gs + length (g .whole)
+unfailed-join [] g = let z = length-append (g .whole) [] in omega arith
+unfailed-join (x ∷ gs) g =
+    let a = length-append (x .whole) (unfailed (gs ++ (g ∷ [])) []) in
+    let b = length-append (x .whole) (unfailed gs []) in
+    let c = unfailed-join gs g in
     omega arith
 
 come-entry : (ms : List Element) (p : Place) (e : Entry) (s′ : Scan) → Come ms p → InRange e → feed (p .scan) e ≡ some s′
@@ -381,7 +378,7 @@ come-entry ms p e s′ c h q = record {
 
 -- A count closes a segment.
 close : (ms : List Element) (p : Place) (m k : ℕ) (g : Segment) → (c : Come ms p) → SegmentFits g → written (g .whole) ++ g .first ≡ c .es → length (g .first) ≡ m
-    → k ≡ finishedIn (c .segments) + length (g .whole) → Come (ms ++ (failed m ∷ [])) (record { scan = between; run = 0; count = k })
+    → k ≡ unfailedIn (c .segments) + length (g .whole) → Come (ms ++ (failed m ∷ [])) (record { scan = between; run = 0; count = k })
 close ms p m k g c f e l z = record {
   segments = c .segments ++ (g ∷ []);
   fit = segments-append (c .segments) (g ∷ []) (c .fit) (f, tt);
@@ -392,7 +389,7 @@ close ms p m k g c f e l z = record {
       ∙ up-append (c .segments) (map entry (c .es)) (failed m ∷ [])
       ∙ ap (λ (r : List Element). r ++ (failed m ∷ [])) (c .is);
   last = last-nil;
-  counted = let y = finished-join (c .segments) g in omega arith;
+  counted = let y = unfailed-join (c .segments) g in omega arith;
 }
 
 ends-may : (s : Scan) → mayEnd s ≡ true → Ends (some s)
@@ -605,7 +602,7 @@ unfolding one
 lost-add zero k a b h c = omega arith
 lost-add (suc m) k a b h c = let z = lost-suc m (k + a) in omega arith
 
-takes : (gs : List Segment) (ps : List Part) (k : ℕ) → SegmentsFit gs → AllFit ps → Takes k (elements gs ps) (length (finished gs ps))
+takes : (gs : List Segment) (ps : List Part) (k : ℕ) → SegmentsFit gs → AllFit ps → Takes k (elements gs ps) (length (unfailed gs ps))
 takes [] ps k f g =
     let r : PlainReading (written ps) = record { parts = ps; fit = g; is = refl } in
     let t = plain-reader .takes-all (written ps) r in
@@ -625,7 +622,7 @@ takes (g ∷ gs) ps k f h =
     let m = length (g .first) in
     let c : lost m (q .count) ≡ k + length (g .whole) = lost-add m k (countAll (some between) es) (length (g .whole)) (t .counted) (t .some-count) in
     let ih = takes gs ps (k + length (g .whole)) (f .1) h in
-    let l = length-append (g .whole) (finished gs ps) in
+    let l = length-append (g .whole) (unfailed gs ps) in
     let z = ih .counted in
     record {
       place = ih .place;
@@ -641,12 +638,12 @@ takes (g ∷ gs) ps k f h =
 
 -- The automaton takes exactly the records of version 2; an entry that it does not take has no grammatical end after it; every other prefix has one; it counts the transfers that didn't fail.
 pub record Reader : Type 0 where
-  pub takes-all : (r : List Element) (k : Reading r) → (p : Place) × (feedElements (at start) r ≡ at p) × Ends (some (p .scan)) × (p .count ≡ length (finished (k .segments) (k .last)))
+  pub takes-all : (r : List Element) (k : Reading r) → (p : Place) × (feedElements (at start) r ≡ at p) × Ends (some (p .scan)) × (p .count ≡ length (unfailed (k .segments) (k .last)))
   pub takes-only : (r : List Element) (p : Place) → ElementsInRange r → feedElements (at start) r ≡ at p → Ends (some (p .scan)) → Reading r
   pub refuses : (pre post : List Element) → feedElements (at start) pre ≡ refused → Reading (pre ++ post) → ⊥
   pub viable : (pre : List Element) (p : Place) → ElementsInRange pre → feedElements (at start) pre ≡ at p → (post : List Entry) × Reading (pre ++ map entry post)
 
-all-taken : (r : List Element) (k : Reading r) → (p : Place) × (feedElements (at start) r ≡ at p) × Ends (some (p .scan)) × (p .count ≡ length (finished (k .segments) (k .last)))
+all-taken : (r : List Element) (k : Reading r) → (p : Place) × (feedElements (at start) r ≡ at p) × Ends (some (p .scan)) × (p .count ≡ length (unfailed (k .segments) (k .last)))
 all-taken r k =
     let t = takes (k .segments) (k .last) 0 (k .segments-fit) (k .last-fit) in
     let c = t .counted in

@@ -5,6 +5,7 @@ use mathlib.Core.List.{List, [], _∷_, _++_, head-eq-of-cons-eq, tail-eq-of-con
 use Prim.Native.Nat.{ℕ, _≤_}
 use native.Mathlib.Omega.{arith}
 use Rattle.record.specs.Grammar.{Four, Entry, setup, out, group, none, some, Part, bulk, control, entries, sentEntries, AllFit, written}
+use Rattle.record.proofs.Both.{absurd-eq}
 
 -- What two groups agree on where the lists that begin with them agree.
 record Same (a e : ℕ) (b : Bool) (xs : List (List ℕ)) (l : List ℕ) (r : List Entry) (a′ e′ : ℕ) (b′ : Bool) (xs′ : List (List ℕ)) (l′ : List ℕ) (r′ : List Entry) : Type 0 where
@@ -14,9 +15,6 @@ record Same (a e : ℕ) (b : Bool) (xs : List (List ℕ)) (l : List ℕ) (r : Li
   full : xs ≡ xs′
   short : l ≡ l′
   after : r ≡ r′
-
-absurd-eq {ℓ} : {A : Type ℓ} → _≡_ {A = ℕ} 0 1 → A
-absurd-eq e = absurd (omega arith)
 
 same : (a e : ℕ) (b : Bool) (xs : List (List ℕ)) (l : List ℕ) (r : List Entry) (a′ e′ : ℕ) (b′ : Bool) (xs′ : List (List ℕ)) (l′ : List ℕ) (r′ : List Entry)
     → group a e b xs l ++ r ≡ group a′ e′ b′ xs′ l′ ++ r′ → Same a e b xs l r a′ e′ b′ xs′ l′ r′

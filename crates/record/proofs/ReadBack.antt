@@ -4,10 +4,11 @@ use mathlib.Core.Path.{_≡_, refl, ap, sym, subst, _∙_}
 use mathlib.Core.List.{List}
 use Prim.Native.Nat.{ℕ}
 use lib.ListN.{length, drop, length-map}
+use lib.Seq.{length-take-le}
 use mathlib.Core.Bool.{true, true≢false}
 use Rattle.transfers.specs.Driver.{fresh}
 use Rattle.record.specs.Grammar.{item}
-use Rattle.record.specs.Segments.{Element, finished}
+use Rattle.record.specs.Segments.{Element, unfailed}
 use Rattle.record.specs.Wire.{File}
 use Rattle.record.specs.Calls.{Call}
 use Rattle.record.specs.Asked.{AllTyped, listed, itemOf}
@@ -23,11 +24,13 @@ use Rattle.record.proofs.Failing.{recorded}
 use Rattle.record.proofs.Keeping.{Holds, Fine, all-fine}
 use Rattle.record.proofs.Verdicts.{accepts}
 use Rattle.record.proofs.Handing.{drop-record, handed-out}
+use Rattle.record.proofs.Holding.{held}
 
 pub written : (f : File) (cs : List Call) → AllTyped cs → (l : List ℕ) (ms : ℕ → List ℕ) (l′ : List ℕ) (n : ℕ) → keptAll l ms cs ≡ kept l′ n → Written f cs l l′ n
 written f cs t l ms l′ n e =
     let h : Holds l l′ n (answeredFrom fresh cs) = subst (λ (k : Kept). Fine l k (answeredFrom fresh cs)) e (all-fine l ms cs) in
-    record { bytes = h .bytes ∙ ap recordOf (sym (answered f cs t)); rest = h .rest }
+    let r = ap recordOf (sym (answered f cs t)) in
+    record { used = sym (length-take-le n l′ (h .inside)) ∙ ap length (h .bytes ∙ r); bytes = h .bytes ∙ r; rest = h .rest }
 
 -- The writer's version is 2.
 same-record : (ms : List Element) → recordOf ms ≡ recordIn true ms
@@ -40,9 +43,11 @@ read f cs t p =
     let r = g .reading in
     let ms = wireRecord f cs in
     let es = listed (endedOf (fates cs)) in
-    let n : length (finished (r .segments) (r .last)) ≡ length es = sym (length-map (finished (r .segments) (r .last)) item) ∙ ap length (g .transfers) ∙ length-map es itemOf in
+    let n : length (unfailed (r .segments) (r .last)) ≡ length es = sym (length-map (unfailed (r .segments) (r .last)) item) ∙ ap length (g .transfers) ∙ length-map es itemOf in
+    let b = ap (λ (l : List ℕ). drop 5 l) (same-record ms) ∙ drop-record true ms ∙ ap encodeElements (sym (r .is)) in
     record {
       recorded = g;
       count = accepts (recordOf ms) true ms (same-record ms) (record { reading = r; plain = λ e. absurd (true≢false e) }) ∙ ap Transfers n;
-      items = handed-out (r .segments) (r .last) (recordOf ms) 5 (r .segments-fit) (r .last-fit) (ap (λ (l : List ℕ). drop 5 l) (same-record ms) ∙ drop-record true ms ∙ ap encodeElements (sym (r .is)));
+      items = handed-out (r .segments) (r .last) (recordOf ms) 5 (r .segments-fit) (r .last-fit) b;
+      held = held (recordOf ms) (r .segments) (r .last) 5 b;
     }

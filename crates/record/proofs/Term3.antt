@@ -9,7 +9,7 @@ use Rattle.transfers.specs.declared.answers.StepAnswer.the-variants.{Waiting, D
 use Rattle.transfers.specs.declared.driver.Driver.{Driver}
 use Rattle.transfers.specs.Driver.{fresh}
 use Rattle.record.specs.Grammar.{Entry, entries, written, PlainReading, item}
-use Rattle.record.specs.Segments.{Element, entry, Segment, elements, finished}
+use Rattle.record.specs.Segments.{Element, entry, Segment, elements, unfailed}
 use Rattle.record.specs.Wire.{File, performs, events, wire}
 use Rattle.record.specs.Calls.{Call, call, Note, began, stepped, cancelled, nothing, note}
 use Rattle.record.specs.Asked.{AllTyped, Begun, armedBy, itemOf, listed}
@@ -21,7 +21,7 @@ use Rattle.record.specs.Term3.{fates, Premises, Unbroken, ComesFrom, Ter
 use Rattle.record.proofs.Unbroken.{entriesFrom, UnbrokenFrom}
 use Rattle.record.proofs.Comes.{calls-for}
 use Rattle.record.proofs.Failing.{recorded}
-use Rattle.record.proofs.Counted.{answered}
+use Rattle.record.proofs.Counted.{answered, counts-small}
 use Rattle.record.proofs.Roomy.{room}
 use Rattle.record.proofs.ReadBack.{written as written-back, read}
 
@@ -41,7 +41,7 @@ unbroken f cs ty h e =
     let k = recorded f cs ty h in
     let r = k .reading in
     let s : r .segments ≡ [] = no-segments (r .segments) (subst (FirstsOf (r .segments)) e (k .firsts)) in
-    let p : r .last ≡ finished (r .segments) (r .last) = ap (λ (v : List Segment). finished v (r .last)) (sym s) in
+    let p : r .last ≡ unfailed (r .segments) (r .last) = ap (λ (v : List Segment). unfailed v (r .last)) (sym s) in
     let b : endedOf (fates cs) ≡ begunFrom fresh cs = all-of-ended (fates cs) e ∙ k .begun in
     record {
       record-is = written (r .last);
@@ -108,4 +108,4 @@ comes f r h =
     }
 
 pub term3 : Term3
-term3 = record { recorded = recorded; unbroken = unbroken; comes = comes; answered = answered; written = written-back; room = room; read = read }
+term3 = record { recorded = recorded; unbroken = unbroken; comes = comes; answered = answered; counts = counts-small; written = written-back; room = room; read = read }

@@ -13,7 +13,7 @@ use borrow.Author.Tests.{eqb-true, le-leb}
 use Rattle.pool.proofs.Cases.{byCases}
 use Rattle.record.specs.Grammar.{Four, Entry, setup, out, Bytes, group, bytes, AllOf, Sent, SentFits, sentEntries, Part, bulk, control, entries, Fits, AllFit, written}
 use Rattle.record.specs.Grammar as G
-use Rattle.record.specs.Segments.{Element, entry, failed, FirstPart, Segment, SegmentsFit, upTo, elements, Reading, finished}
+use Rattle.record.specs.Segments.{Element, entry, failed, FirstPart, Segment, SegmentsFit, upTo, elements, Reading, unfailed}
 use Rattle.record.specs.Bytes.{headFor, encodeElement, encodeElements}
 use Rattle.record.specs.Scan.{Ends, AllInRange}
 use Rattle.record.specs.Place.{feedElement, runAfter, countAfter, Place, Reach, at, refused, reach, feedElements, start, ElementsInRange}
@@ -30,17 +30,14 @@ use Rattle.record.specs.declared.reader.CheckAnswer.{CheckAnswer}
 use Rattle.record.specs.declared.reader.CheckAnswer.the-variants.{Transfers, Refused}
 use Rattle.record.specs.declared.reader.Progress.{Progress}
 use Rattle.record.specs.declared.reader.Turn.the-variants.{Go, Stop}
-use Rattle.record.proofs.Both.{and-left, and-right}
+use Rattle.record.proofs.Both.{absurd-eq, and-left, and-right}
 use Rattle.record.proofs.OneReading.{no-count}
 use Rattle.record.proofs.Placing.{reader, feed-elements-append}
 use Rattle.record.proofs.Few.{first-few}
 use Rattle.record.proofs.Encoding.{elements-append, element-one}
 use Rattle.record.proofs.Looking.{Seen, seenEnd, seenBad, seenSetup, seenOut, seenFailed, seen}
 use Rattle.record.proofs.Turns.{read-go, read-stop}
-use Rattle.record.proofs.Decoding.{Decoded, lookMark, look-mark, drop-mark, turn-mark, bytes-drop, setup-decoded, out-decoded, failed-decoded}
-
-absurd-eq {ℓ} : {A : Type ℓ} → _≡_ {A = ℕ} 0 1 → A
-absurd-eq e = absurd (omega arith)
+use Rattle.record.proofs.Decoding.{Decoded, lookElement, look-element, drop-element, turn-element, bytes-drop, setup-decoded, out-decoded, failed-decoded}
 
 -- ---- the head
 
@@ -168,7 +165,7 @@ abbrev landed : Progress → List Element → Place → Progress
 landed p ms q = record { at = p .at + length (encodeElements ms); scan = q .scan; run = q .run; count = q .count }
 
 pub after-mark : (s : List ℕ) (n : ℕ) (m : Element) (post : List ℕ) → drop n s ≡ encodeElement m ++ post → drop (n + length (encodeElement m)) s ≡ post
-after-mark s n m post q = sym (drop-drop (length (encodeElement m)) n s) ∙ ap (λ (l : List ℕ). drop (length (encodeElement m)) l) q ∙ drop-mark m post
+after-mark s n m post q = sym (drop-drop (length (encodeElement m)) n s) ∙ ap (λ (l : List ℕ). drop (length (encodeElement m)) l) q ∙ drop-element m post
 
 refused-at : {A : Type 0} (ms : List Element) (q : Place) → feedElements refused ms ≡ at q → A
 refused-at [] q e = absurd-eq (cc)
@@ -194,7 +191,7 @@ run (x ∷ ms) s two p f rest q d h e = go (feedElement (p .scan) (p .run) x) re
     go none w ih = refused-at ms q (subst (λ (o : OptionScan). feedElements (reach o (runAfter (p .scan) (p .run) x) (countAfter (p .scan) (p .count) x)) ms ≡ at q) w e)
     go (some u) w ih =
         let n : Progress = record { at = p .at + length (encodeElement x); scan = u; run = runAfter (p .scan) (p .run) x; count = countAfter (p .scan) (p .count) x } in
-        let t : turnOf s two p ≡ Go n = turn-mark s two p x (encodeElements ms ++ rest) k (h .0 .0) (h .0 .1)
+        let t : turnOf s two p ≡ Go n = turn-element s two p x (encodeElements ms ++ rest) k (h .0 .0) (h .0 .1)
         ∙ ap (λ (o : OptionScan). goOn o (p .at + length (encodeElement x)) (runAfter (p .scan) (p .run) x) (countAfter (p .scan) (p .count) x)) w in
         let g = subst (λ (o : OptionScan). feedElements (reach o (runAfter (p .scan) (p .run) x) (countAfter (p .scan) (p .count) x)) ms ≡ at q) w e in
         let r = ih n (after-mark s (p .at) x (encodeElements ms ++ rest) k) g in
@@ -234,7 +231,7 @@ at-same : (p q : Place) → at p ≡ at q → p ≡ q
 at-same p q e = cc
 
 -- The count of a record that was taken.
-count-is : (ms : List Element) (k : Reading ms) (p : Place) → feedElements (at start) ms ≡ at p → p .count ≡ length (finished (k .segments) (k .last))
+count-is : (ms : List Element) (k : Reading ms) (p : Place) → feedElements (at start) ms ≡ at p → p .count ≡ length (unfailed (k .segments) (k .last))
 count-is ms k p f = let t = reader .takes-all ms k in ap (λ (q : Place). q .count) (at-same p (t .0) (sym f ∙ t .1)) ∙ t .3
 
 ends-is : (ms : List Element) (k : Reading ms) (p : Place) → feedElements (at start) ms ≡ at p → Ends (some (p .scan))
@@ -261,7 +258,7 @@ nil-of : (l : List ℕ) → length l ≡ 0 → l ≡ []
 nil-of [] e = refl
 nil-of (x ∷ l) e = absurd (omega arith)
 
-no-look : (m : Element) → lookMark m ≡ Bad → ⊥
+no-look : (m : Element) → lookElement m ≡ Bad → ⊥
 no-look (entry (setup a lo hi)) q = absurd-eq (cc)
 no-look (entry (out a e b last l)) q = absurd-eq (cc)
 no-look (failed m) q = absurd-eq (cc)
@@ -296,9 +293,9 @@ no-way-on s two p c m post h q w = record {
 
 -- In version 1 a count is no entry.
 not-entry : (l : List ℕ) (v : ℕ) → look l ≡ Failed v → (m : Element) (r : List ℕ) → Ranged false m → l ≡ encodeElement m ++ r → ⊥
-not-entry l v q (entry e) r h z = no e (sym (look-mark (entry e) r (h .0)) ∙ ap look (sym z) ∙ q)
+not-entry l v q (entry e) r h z = no e (sym (look-element (entry e) r (h .0)) ∙ ap look (sym z) ∙ q)
   where
-    no : (e : Entry) → lookMark (entry e) ≡ Failed v → ⊥
+    no : (e : Entry) → lookElement (entry e) ≡ Failed v → ⊥
     no (setup a lo hi) k = absurd-eq (cc)
     no (out a e b last l) k = absurd-eq (cc)
 not-entry l v q (failed m) r h z = let y : false ≡ true = h .1 in absurd-eq (cc)
@@ -317,7 +314,7 @@ exact-from (suc f) s two p b h i c = go two c (seen (drop (p .at) s)) (λ two n 
     at-mark two c d ih = fork (feedElement (p .scan) (p .run) (d .mark)) refl
       where
         t : turnOf s two p ≡ goOn (feedElement (p .scan) (p .run) (d .mark)) (p .at + length (encodeElement (d .mark))) (runAfter (p .scan) (p .run) (d .mark)) (countAfter (p .scan) (p .count) (d .mark))
-        t = turn-mark s two p (d .mark) (d .rest) (d .is) (d .ranged) (d .version)
+        t = turn-element s two p (d .mark) (d .rest) (d .is) (d .ranged) (d .version)
 
         fork : (o : OptionScan) → feedElement (p .scan) (p .run) (d .mark) ≡ o → Verdict s (readFrom (suc f) s two p)
         fork none w =
@@ -344,7 +341,7 @@ exact-from (suc f) s two p b h i c = go two c (seen (drop (p .at) s)) (λ two n 
           ranged = c .ranged;
           viable = viable-of two (c .done) (placeOf p) (c .ranged) (c .fed);
           more = λ z. look-nil (subst (λ (v : List ℕ). look v ≡ Bad) z q);
-          none = λ m r h z. no-look m (sym (look-mark m r (h .0)) ∙ subst (λ (v : List ℕ). look v ≡ Bad) z q);
+          none = λ m r h z. no-look m (sym (look-element m r (h .0)) ∙ subst (λ (v : List ℕ). look v ≡ Bad) z q);
         })
         (read-stop f s two p (Refused Field) (turn-at s two p Bad q))
     go two c (seenSetup k m a q) ih = at-mark two c (setup-decoded two l (bytes-drop (p .at) s b) k m a) ih
@@ -560,7 +557,7 @@ reads-ranged false ms r =
     plain-true ms h (subst Plain e (plain-append [] (written (k .last)) tt))
 
 -- Every encoding of a record of the grammar is accepted, with as many transfers as didn't fail.
-pub accepts : (s : List ℕ) (two : Bool) (ms : List Element) → s ≡ recordIn two ms → (r : Reads two ms) → checkOf s ≡ Transfers (length (finished (r .reading .segments) (r .reading .last)))
+pub accepts : (s : List ℕ) (two : Bool) (ms : List Element) → s ≡ recordIn two ms → (r : Reads two ms) → checkOf s ≡ Transfers (length (unfailed (r .reading .segments) (r .reading .last)))
 accepts s two ms q r =
     let h = reads-ranged two ms r in
     let f = fed-of two ms (record { after = []; reads = subst (Reads two) (sym (append-nil ms)) r }) in
@@ -586,7 +583,7 @@ only-deserved s a b (grammar u q) =
     let r = arrive s (u .two) (u .ms) (encodeElement (u .m) ++ u .rest) (f .0) (u .is) (u .ranged) (f .1) in
     let p = landed atHead (u .ms) (f .0) in
     let w = stuck-none (u .two) (u .ms) (u .m) (f .0) (u .ranged) (u .last-ranged) (f .1) (u .stuck) in
-    let t = turn-mark s (u .two) p (u .m) (u .rest) (r .left) (u .last-ranged .0) (u .last-ranged .1) in
+    let t = turn-element s (u .two) p (u .m) (u .rest) (r .left) (u .last-ranged .0) (u .last-ranged .1) in
     r .same
     ∙ read-stop (r .fuel) s (u .two) p (Refused Grammar) (t ∙ ap (λ (o : OptionScan). goOn o (p .at + length (encodeElement (u .m))) (runAfter (p .scan) (p .run) (u .m)) (countAfter (p .scan) (p .count) (u .m))) w)
     ∙ sym q

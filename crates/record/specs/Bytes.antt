@@ -39,7 +39,7 @@ encodeAll (e ∷ es) = encode e ++ encodeAll es
 
 -- "the entry 0x58 and a 32-bit count, low byte first"
 abbrev pub failedBytes : ℕ → List ℕ
-failedBytes n = 0x58 ∷ n % 65536 % 256 ∷ n % 65536 / 256 ∷ n / 65536 % 256 ∷ n / 65536 / 256 ∷ []
+failedBytes n = 0x58 ∷ n % 256 ∷ n / 256 % 256 ∷ n / 65536 % 256 ∷ n / 16777216 ∷ []
 
 -- An entry of version 2.
 abbrev pub encodeElement : Element → List ℕ

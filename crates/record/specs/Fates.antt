@@ -2,12 +2,13 @@
 use mathlib.Core.Path.{_≡_}
 use mathlib.Core.Bool.{cond}
 use mathlib.Core.List.{List, [], _∷_, _++_, map}
+use lib.ListN.{length}
 use Rattle.transfers.specs.declared.answers.StepAnswer.{StepAnswer}
 use Rattle.transfers.specs.declared.answers.StepAnswer.the-variants.{Waiting, Done, Refused}
 use Rattle.transfers.specs.declared.driver.Driver.{Driver}
 use Rattle.transfers.specs.Entries.{ends}
 use Rattle.record.specs.Grammar.{Entry}
-use Rattle.record.specs.Segments.{Segment}
+use Rattle.record.specs.Segments.{Element, entry, failed, Segment}
 use Rattle.record.specs.Calls.{Call, call, Note, began, stepped, cancelled, nothing, note}
 use Rattle.record.specs.Asked.{Begun, armedBy}
 use Rattle.record.specs.Told.{Live, none, live, nextLive}
@@ -80,3 +81,9 @@ FirstsOf [] [] = Unit {0}
 FirstsOf [] (g ∷ gs) = ⊥
 FirstsOf (s ∷ ss) [] = ⊥
 FirstsOf (s ∷ ss) (g ∷ gs) = FirstOf (s .first) g × FirstsOf ss gs
+
+-- A record is made transfer by transfer, in order: one that ended with a count leaves the entries that it was to arm, one that failed the first of them and their count.
+abbrev pub Made : List Fate → List Element → Type 0
+Made [] r = r ≡ []
+Made (ended g ∷ fs) r = (r′ : List Element) × (r ≡ map entry (armedBy g) ++ r′) × Made fs r′
+Made (broken g ∷ fs) r = (es : List Entry) × (r′ : List Element) × FirstOf es g × (r ≡ map entry es ++ (failed (length es) ∷ r′)) × Made fs r′

@@ -3,11 +3,11 @@ use mathlib.Core.Path.{_≡_}
 use mathlib.Core.Bool.{Bool, true, false, not, cond}
 use mathlib.Core.List.{List, [], _∷_, _++_}
 use Prim.Native.Nat.{ℕ, zero, suc, _+_}
-use lib.ListN.{length, drop}
+use lib.ListN.{length, take, drop}
 use lib.Dec.{eqb}
-use Rattle.record.specs.Grammar.{Part, bulk, control, entries, written, bytes, sentBytes}
-use Rattle.record.specs.Segments.{Segment, finished}
-use Rattle.record.specs.Bytes.{encodeAll}
+use Rattle.record.specs.Grammar.{Part, bulk, control, none, some, entries, written, bytes, sentBytes}
+use Rattle.record.specs.Segments.{Segment, unfailed}
+use Rattle.record.specs.Bytes.{fourOf, encodeAll}
 use Rattle.record.specs.Reader.{look}
 use Rattle.record.specs.Verdict.{Whole}
 use Rattle.record.specs.declared.look.Look.{Look}
@@ -110,21 +110,43 @@ abbrev pub itemsFor : List Part → ℕ → List ItemAnswer
 itemsFor [] at = []
 itemsFor (q ∷ qs) at = itemFor q at ∷ itemsFor qs (at + length (encodeAll (entries q)))
 
--- What stands for a reading in version 2: the whole transfers before a count, one that failed, and so on.
+-- What stands for a reading: the whole transfers before a count, one that failed, and so on; then the end.
 abbrev pub answersFor : List Segment → List Part → ℕ → List ItemAnswer
-answersFor [] ps at = itemsFor ps at
+answersFor [] ps at = itemsFor ps at ++ (noItem ∷ [])
 answersFor (g ∷ gs) ps at =
     let end = at + length (encodeAll (written (g .whole) ++ g .first)) + 5 in
     itemsFor (g .whole) at ++ (failedItem (record { at = end }) ∷ answersFor gs ps end)
 
--- How many times the cursor is moved: once for each whole transfer and once for each count.
+-- How many times the cursor is asked: once for each whole transfer, once for each count, and once for the end.
 abbrev pub moves : List Segment → List Part → ℕ
-moves [] ps = length ps
+moves [] ps = suc (length ps)
 moves (g ∷ gs) ps = length (g .whole) + suc (moves gs ps)
 
--- A record that the check accepts has a reading; the cursor hands out its items from the first on, and then the end.
+-- "OUT: 0x4F, address, endpoint, PID, last, length, bytes": packet by packet, each one's length stands at place 5 of its entry and its bytes after it.
+abbrev pub PacketsAt : List ℕ → ℕ → List (List ℕ) → Type 0
+PacketsAt s at [] = Unit {0}
+PacketsAt s at (l ∷ ls) = (take (suc (length l)) (drop (at + 5) s) ≡ length l ∷ l) × PacketsAt s (at + (6 + length l)) ls
+
+-- What stands at an item's places: the SETUP's eight bytes where the answer says (at + 2), its OUT packets from at + 10 on; a bulk group's packets from at on.
+abbrev pub HeldAt : List ℕ → Part → ℕ → Type 0
+HeldAt s (bulk a e b xs l) at = PacketsAt s at (xs ++ (l ∷ []))
+HeldAt s (control a lo hi none) at = take 8 (drop (at + 2) s) ≡ fourOf lo ++ fourOf hi
+HeldAt s (control a lo hi (some xs l)) at = (take 8 (drop (at + 2) s) ≡ fourOf lo ++ fourOf hi) × PacketsAt s (at + 10) (xs ++ (l ∷ []))
+
+-- Of the parts of a record whose entries begin at a position.
+abbrev pub HeldAll : List ℕ → List Part → ℕ → Type 0
+HeldAll s [] at = Unit {0}
+HeldAll s (q ∷ qs) at = HeldAt s q at × HeldAll s qs (at + length (encodeAll (entries q)))
+
+-- Of a reading.
+abbrev pub Held : List ℕ → List Segment → List Part → ℕ → Type 0
+Held s [] ps at = HeldAll s ps at
+Held s (g ∷ gs) ps at = HeldAll s (g .whole) at × Held s gs ps (at + length (encodeAll (written (g .whole) ++ g .first)) + 5)
+
+-- A record that the check accepts has a reading; the cursor hands out its items from the first on, and then the end; and their bytes stand at their places.
 pub record Accepted (s : List ℕ) (n : ℕ) : Type 0 where
   pub record-is : Whole s
-  pub count : n ≡ length (finished (record-is .reads .reading .segments) (record-is .reads .reading .last))
+  pub count : n ≡ length (unfailed (record-is .reads .reading .segments) (record-is .reads .reading .last))
   pub items : itemsFrom (moves (record-is .reads .reading .segments) (record-is .reads .reading .last)) s firstAt
       ≡ answersFor (record-is .reads .reading .segments) (record-is .reads .reading .last) firstAt
+  pub held : Held s (record-is .reads .reading .segments) (record-is .reads .reading .last) firstAt

@@ -1,12 +1,11 @@
 -- The wire record of a list of calls, in version 2: from the logs performed in order, packet memory and the answers, never from the driver's state.
 use mathlib.Core.Bool.{Bool, true, false}
 use mathlib.Core.List.{List, [], _∷_, _++_, map}
-use Prim.Native.Nat.{ℕ, _+_}
+use Prim.Native.Nat.{ℕ, _+_, _≤_}
 use lib.ListN.{length}
 use Rattle.transfers.specs.declared.answers.OptionEntries.{OptionEntries}
 use Rattle.transfers.specs.declared.answers.OptionEntries.the-variants.{Some as someCount, None as noCount}
 use Rattle.transfers.specs.declared.driver.Driver.{Driver}
-use Rattle.transfers.specs.Entries.{word}
 use Rattle.record.specs.Segments.{Element, entry, failed}
 use Rattle.record.specs.Wire.{File, performs, wire}
 use Rattle.record.specs.Armed.{entriesArmed}
@@ -23,7 +22,7 @@ since nothing n k = n + k
 -- "written when a started transfer ends by 1 to 7 or 9 or is cancelled"
 abbrev pub failure : Bool → ℕ → List Element
 failure false n = []
-failure true n = failed (word n) ∷ []
+failure true n = failed n ∷ []
 
 -- "the SETUPs and OUT packets in order of arming", each call "getting the state the last one returned", and a count where a call ends a transfer without one.
 -- n is the entries since the last begin.
@@ -45,3 +44,9 @@ counted (someCount n) = failed n ∷ []
 unfoldable pub answeredFrom : Driver → List Call → List Element
 answeredFrom d [] = []
 answeredFrom d (c ∷ cs) = let o = call d c in map entry (entriesArmed (o .memory) (o .armed)) ++ (counted (o .failed) ++ answeredFrom (o .next) cs)
+
+-- Every count of a record is at most k.
+abbrev pub CountsTo : ℕ → List Element → Type 0
+CountsTo k [] = Unit {0}
+CountsTo k (entry e ∷ ms) = CountsTo k ms
+CountsTo k (failed n ∷ ms) = (n ≤ k) × CountsTo k ms

@@ -49,6 +49,6 @@ pub record Reading (r : List Element) : Type 0 where
   pub is : elements segments last ≡ r
 
 -- "only transfers that didn't fail", in order.
-abbrev pub finished : List Segment → List Part → List Part
-finished [] ps = ps
-finished (g ∷ gs) ps = g .whole ++ finished gs ps
+abbrev pub unfailed : List Segment → List Part → List Part
+unfailed [] ps = ps
+unfailed (g ∷ gs) ps = g .whole ++ unfailed gs ps

@@ -13,18 +13,18 @@ use Prim.Native.Nat.{ℕ, _≤_}
 use lib.ListN.{length, take, drop}
 use Rattle.transfers.specs.Driver.{fresh}
 use Rattle.record.specs.Grammar.{Entry, entries, PlainReading, item}
-use Rattle.record.specs.Segments.{Element, entry, Reading, finished}
+use Rattle.record.specs.Segments.{Element, entry, Reading, unfailed}
 use Rattle.record.specs.Wire.{File}
 use Rattle.record.specs.Calls.{Call}
 use Rattle.record.specs.Asked.{AllTyped, listed, itemOf, armedBy}
 use Rattle.record.specs.Told.{none, unarmed}
-use Rattle.record.specs.Record.{recordFrom, answeredFrom}
-use Rattle.record.specs.Fates.{Fate, fatesFrom, begunFrom, allOf, endedOf, brokenOf, FirstsOf}
+use Rattle.record.specs.Record.{recordFrom, answeredFrom, CountsTo}
+use Rattle.record.specs.Fates.{Fate, fatesFrom, begunFrom, allOf, endedOf, brokenOf, FirstsOf, Made}
 use Rattle.record.specs.Premises.{PremisesFrom}
 use Rattle.record.specs.Bytes.{recordOf}
 use Rattle.record.specs.Kept.{kept, refused, keptAll, AllLent}
 use Rattle.record.specs.Reader.{checkOf}
-use Rattle.record.specs.Items.{firstAt, itemsFrom, answersFor, moves}
+use Rattle.record.specs.Items.{firstAt, itemsFrom, answersFor, moves, Held}
 use Rattle.record.specs.declared.reader.CheckAnswer.the-variants.{Transfers}
 
 -- ---- from a fresh driver; f is the registers before the first call, any
@@ -43,14 +43,15 @@ Premises f cs = PremisesFrom none 0 unarmed f fresh cs
 
 -- ---- the customer's sentences
 
--- The record has a reading and no other. Each transfer begun ended with a count or failed, in order; the reading's items are those of the transfers that ended
--- with a count, its packets their cuttings, and the entries that each of its counts counts are the first of the transfer that failed there.
+-- The record has a reading and no other. Each transfer begun ended with a count or failed, in order, and the record is made of their entries; the reading's items
+-- are those of the transfers that ended with a count, its packets their cuttings, and the entries that each count counts are the first of the transfer that failed there.
 pub record Recorded (f : File) (cs : List Call) : Type 0 where
   pub reading : Reading (wireRecord f cs)
   pub only : (r : Reading (wireRecord f cs)) → (r .segments ≡ reading .segments) × (r .last ≡ reading .last)
   pub begun : allOf (fates cs) ≡ begunFrom fresh cs
-  pub transfers : map item (finished (reading .segments) (reading .last)) ≡ map itemOf (listed (endedOf (fates cs)))
-  pub packets : map entries (finished (reading .segments) (reading .last)) ≡ map armedBy (listed (endedOf (fates cs)))
+  pub made : Made (fates cs) (wireRecord f cs)
+  pub transfers : map item (unfailed (reading .segments) (reading .last)) ≡ map itemOf (listed (endedOf (fates cs)))
+  pub packets : map entries (unfailed (reading .segments) (reading .last)) ≡ map armedBy (listed (endedOf (fates cs)))
   pub firsts : FirstsOf (reading .segments) (brokenOf (fates cs))
 
 -- "each started transfer ended with a count": then the record has no count, and its reading is the transfers begun.
@@ -69,23 +70,27 @@ pub record ComesFrom (f : File) (r : List Entry) : Type 0 where
   pub unbroken : brokenOf (fates calls) ≡ []
   pub is : wireRecord f calls ≡ map entry r
 
--- The writer left the record's bytes, head first; past them the record lent (l) is as it was.
+-- The writer left the record's n bytes, head first; past them the record lent (l) is as it was.
 pub record Written (f : File) (cs : List Call) (l l′ : List ℕ) (n : ℕ) : Type 0 where
+  pub used : n ≡ length (recordOf (wireRecord f cs))
   pub bytes : take n l′ ≡ recordOf (wireRecord f cs)
   pub rest : drop n l′ ≡ drop n l
 
--- The reader accepts bytes s, counts the transfers that ended with a count, and its cursor hands out the items of the record's one reading.
+-- The reader accepts bytes s, counts the transfers that ended with a count, and its cursor hands out the items of the record's one reading, whose bytes stand at
+-- their places.
 pub record ReadBack (f : File) (cs : List Call) (s : List ℕ) : Type 0 where
   pub recorded : Recorded f cs
   pub count : checkOf s ≡ Transfers (length (listed (endedOf (fates cs))))
   pub items : itemsFrom (moves (recorded .reading .segments) (recorded .reading .last)) s firstAt ≡ answersFor (recorded .reading .segments) (recorded .reading .last) firstAt
+  pub held : Held s (recorded .reading .segments) (recorded .reading .last) firstAt
 
--- Term 3. `answered`, `written` and `room` have no premise.
+-- Term 3. `answered`, `counts`, `written` and `room` have no premise; a transfer arms at most 65,536 entries, so that each count fits "a 32-bit count".
 pub record Term3 : Type 0 where
   pub recorded : (f : File) (cs : List Call) → AllTyped cs → Premises f cs → Recorded f cs
   pub unbroken : (f : File) (cs : List Call) → AllTyped cs → Premises f cs → brokenOf (fates cs) ≡ [] → Unbroken f cs
   pub comes : (f : File) (r : List Entry) → PlainReading r → ComesFrom f r
   pub answered : (f : File) (cs : List Call) → AllTyped cs → wireRecord f cs ≡ answeredFrom fresh cs
+  pub counts : (f : File) (cs : List Call) → AllTyped cs → CountsTo 65536 (wireRecord f cs)
   pub written : (f : File) (cs : List Call) → AllTyped cs → (l : List ℕ) (ms : ℕ → List ℕ) (l′ : List ℕ) (n : ℕ) → keptAll l ms cs ≡ kept l′ n → Written f cs l l′ n
   pub room : (cs : List Call) → AllTyped cs → AllLent cs → (l : List ℕ) (ms : ℕ → List ℕ) → ((i : ℕ) → length (ms i) ≡ 4096) → length (recordOf (answeredFrom fresh cs)) ≤ length l → keptAll l ms cs ≡ refused → ⊥
   pub read : (f : File) (cs : List Call) → AllTyped cs → Premises f cs → ReadBack f cs (recordOf (wireRecord f cs))

@@ -4,7 +4,7 @@ use mathlib.Core.Bool.{Bool, true, false}
 use mathlib.Core.List.{List, [], _∷_, _++_}
 use Prim.Native.Nat.{ℕ}
 use lib.ListN.{length}
-use Rattle.record.specs.Segments.{Element, entry, failed, Reading, finished}
+use Rattle.record.specs.Segments.{Element, entry, failed, Reading, unfailed}
 use Rattle.record.specs.Bytes.{headFor, encodeElement, encodeElements}
 use Rattle.record.specs.Place.{ElementInRange}
 use Rattle.record.specs.declared.refusal.Refusal.the-variants.{Mark as badMark, Field, Grammar}
@@ -93,4 +93,4 @@ pub data Verdict (s : List ℕ) (a : CheckAnswer) : Type 0 where
   field : NoEntry s → a ≡ Refused Field → Verdict s a
   grammar : NoWayOn s → a ≡ Refused Grammar → Verdict s a
   unfinished : Unfinished s → a ≡ Refused Grammar → Verdict s a
-  whole : (w : Whole s) → a ≡ Transfers (length (finished (w .reads .reading .segments) (w .reads .reading .last))) → Verdict s a
+  whole : (w : Whole s) → a ≡ Transfers (length (unfailed (w .reads .reading .segments) (w .reads .reading .last))) → Verdict s a

@@ -1,6 +1,6 @@
 -- `put_failed` stores a count: 0x58 and 32 bits, low byte first.
 -- Assumes nothing.
-use Rattle.record.proofs.Puts.{then}
+use Rattle.record.proofs.Puts.{then, put-count}
 use borrow.Author.Needs.{needs}
 use Rattle.record.proofs.writer.put_failed.Statement.{statement}
 use Rattle.record.proofs.writer.put_failed.Tie as tie
@@ -24,7 +24,7 @@ same-length : tie.Need-same-length
 same-length c = search needs
 
 returns : tie.Need-returns
-returns c = then ((c .before .before .before .before .before .before .before .before .before .before .put-byte) .ensures) (then ((c .before .before .before .before .before .before .put-word) .ensures) ((c .before .before .put-word2) .ensures))
+returns c = put-count (c .before .before .before .before .before .before .before .before .before .before .before .before .before .args .n) (then ((c .before .before .before .before .before .before .before .before .before .before .put-byte) .ensures) (then ((c .before .before .before .before .before .before .put-word) .ensures) ((c .before .before .put-word2) .ensures)))
 
 pub put-failed-spec : {M : Type 1} → statement M
 put-failed-spec =
