@@ -126,11 +126,11 @@ bytes-take (suc n) (x ∷ l) h = (h .0, bytes-take n l (h .1))
 
 -- The entry that stands at the front of bytes.
 pub record Decoded (two : Bool) (l : List ℕ) : Type 0 where
-  pub mark : Element
-  pub ranged : ElementInRange mark
-  pub version : OfVersion two mark
+  pub element : Element
+  pub ranged : ElementInRange element
+  pub version : OfVersion two element
   pub rest : List ℕ
-  pub is : l ≡ encodeElement mark ++ rest
+  pub is : l ≡ encodeElement element ++ rest
 
 one-more : (l : List ℕ) (j : ℕ) (r : List ℕ) → j < length l → drop (suc j) l ≡ r → drop j l ≡ getD l j 0 ∷ r
 one-more l j r h q = drop-cons l j 0 h ∙ ap (λ (v : List ℕ). getD l j 0 ∷ v) q
@@ -138,7 +138,7 @@ one-more l j r h q = drop-cons l j 0 h ∙ ap (λ (v : List ℕ). getD l j 0 ∷
 pub setup-decoded : (two : Bool) (l : List ℕ) → Bytes l → getD l 0 0 ≡ 0x53 → 10 ≤ length l → getD l 1 0 ≤ 127 → Decoded two l
 setup-decoded two l b k h a = record {
   version = tt;
-  mark = entry (setup (getD l 1 0) (four (getD l 2 0) (getD l 3 0) (getD l 4 0) (getD l 5 0)) (four (getD l 6 0) (getD l 7 0) (getD l 8 0) (getD l 9 0)));
+  element = entry (setup (getD l 1 0) (four (getD l 2 0) (getD l 3 0) (getD l 4 0) (getD l 5 0)) (four (getD l 6 0) (getD l 7 0) (getD l 8 0) (getD l 9 0)));
   ranged = (a, (byte-at l 2 b, byte-at l 3 b, byte-at l 4 b, byte-at l 5 b), (byte-at l 6 b, byte-at l 7 b, byte-at l 8 b, byte-at l 9 b));
   rest = drop 10 l;
   is =
@@ -162,7 +162,7 @@ out-decoded two l b f =
     let lm : length m ≡ n = length-take-le n (drop 6 l) (omega arith) in
     record {
       version = tt;
-      mark = entry (out (getD l 1 0) (getD l 2 0) (eqb (getD l 3 0) 1) (eqb (getD l 4 0) 1) m);
+      element = entry (out (getD l 1 0) (getD l 2 0) (eqb (getD l 3 0) 1) (eqb (getD l 4 0) 1) m);
       ranged = (f .address, f .endpoint, (let s = f .short in omega arith), bytes-take n (drop 6 l) (bytes-drop 6 l b));
       rest = drop (6 + n) l;
       is =
@@ -194,7 +194,7 @@ failed-decoded l b k h =
     let e₄ : u ≡ v / 65536 / 256 = sym (ap (λ (n : ℕ). n / 256) hi ∙ high z u hz) in
     record {
       version = refl;
-      mark = failed v;
+      element = failed v;
       ranged = omega arith;
       rest = drop 5 l;
       is =

@@ -441,10 +441,10 @@ guard-some : (b : Bool) (s s′ : Scan) → guard b s ≡ some s′ → (b ≡ t
 guard-some true s s′ e = (refl, cc)
 guard-some false s s′ e = absurd-eq (cc)
 
-come-mark : (ms : List Element) (p : Place) (m : Element) (s′ : Scan) → Come ms p → ElementInRange m → feedElement (p .scan) (p .run) m ≡ some s′
+come-element : (ms : List Element) (p : Place) (m : Element) (s′ : Scan) → Come ms p → ElementInRange m → feedElement (p .scan) (p .run) m ≡ some s′
     → Come (ms ++ (m ∷ [])) (record { scan = s′; run = runAfter (p .scan) (p .run) m; count = countAfter (p .scan) (p .count) m })
-come-mark ms p (entry e) s′ c h q = come-entry ms p e s′ c h q
-come-mark ms p (failed m) s′ c h q =
+come-element ms p (entry e) s′ c h q = come-entry ms p e s′ c h q
+come-element ms p (failed m) s′ c h q =
     let g = guard-some (countRight (p .scan) (p .run) m) between s′ q in
     subst (λ (v : Scan). Come (ms ++ (failed m ∷ [])) (record { scan = v; run = 0; count = lost m (p .count) })) (g .1) (come-failed ms p m c (g .0))
 
@@ -463,7 +463,7 @@ come-all (m ∷ post) pre p q c h f = go (feedElement (p .scan) (p .run) m) refl
         → Come (pre ++ (m ∷ post)) q
     go none z ih = not-at q (sym (refused-stays post) ∙ subst (λ (o : OptionScan). feedElements (reach o (runAfter (p .scan) (p .run) m) (countAfter (p .scan) (p .count) m)) post ≡ at q) z f)
     go (some s) z ih =
-        let c′ = come-mark pre p m s c (h .0) z in
+        let c′ = come-element pre p m s c (h .0) z in
         let f′ = subst (λ (o : OptionScan). feedElements (reach o (runAfter (p .scan) (p .run) m) (countAfter (p .scan) (p .count) m)) post ≡ at q) z f in
         subst (λ (v : List Element). Come v q) (append-assoc pre (m ∷ []) post) (ih (record { scan = s; run = runAfter (p .scan) (p .run) m; count = countAfter (p .scan) (p .count) m }) c′ f′)
 

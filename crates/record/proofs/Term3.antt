@@ -18,6 +18,7 @@ use Rattle.record.specs.Premises.{PremisesFrom}
 use Rattle.record.specs.Record.{since, failure, recordFrom}
 use Rattle.record.specs.Fates.{begunFrom, Fate, ended, broken, underWay, fate, fatesFrom, allOf, endedOf, brokenOf, FirstsOf}
 use Rattle.record.specs.Term3.{fates, Premises, Unbroken, ComesFrom, Term3}
+use Rattle.record.proofs.PlainReading.{one-plain-reading}
 use Rattle.record.proofs.Unbroken.{entriesFrom, UnbrokenFrom}
 use Rattle.record.proofs.Comes.{calls-for}
 use Rattle.record.proofs.Failing.{recorded}
@@ -47,6 +48,7 @@ unbroken f cs ty h e =
       record-is = written (r .last);
       is = sym (r .is) ∙ ap (λ (v : List Segment). elements v (r .last)) s;
       reading = record { parts = r .last; fit = r .last-fit; is = refl };
+      only = λ v. one-plain-reading (v .parts) (r .last) (v .fit) (r .last-fit) (v .is);
       transfers = ap (map item) p ∙ k .transfers ∙ ap (λ (v : List Begun). map itemOf (listed v)) b;
       packets = ap (map entries) p ∙ k .packets ∙ ap (λ (v : List Begun). map armedBy (listed v)) b;
     }

@@ -164,8 +164,8 @@ placeOf p = record { scan = p .scan; run = p .run; count = p .count }
 abbrev landed : Progress → List Element → Place → Progress
 landed p ms q = record { at = p .at + length (encodeElements ms); scan = q .scan; run = q .run; count = q .count }
 
-pub after-mark : (s : List ℕ) (n : ℕ) (m : Element) (post : List ℕ) → drop n s ≡ encodeElement m ++ post → drop (n + length (encodeElement m)) s ≡ post
-after-mark s n m post q = sym (drop-drop (length (encodeElement m)) n s) ∙ ap (λ (l : List ℕ). drop (length (encodeElement m)) l) q ∙ drop-element m post
+pub after-element : (s : List ℕ) (n : ℕ) (m : Element) (post : List ℕ) → drop n s ≡ encodeElement m ++ post → drop (n + length (encodeElement m)) s ≡ post
+after-element s n m post q = sym (drop-drop (length (encodeElement m)) n s) ∙ ap (λ (l : List ℕ). drop (length (encodeElement m)) l) q ∙ drop-element m post
 
 refused-at : {A : Type 0} (ms : List Element) (q : Place) → feedElements refused ms ≡ at q → A
 refused-at [] q e = absurd-eq (cc)
@@ -194,7 +194,7 @@ run (x ∷ ms) s two p f rest q d h e = go (feedElement (p .scan) (p .run) x) re
         let t : turnOf s two p ≡ Go n = turn-element s two p x (encodeElements ms ++ rest) k (h .0 .0) (h .0 .1)
         ∙ ap (λ (o : OptionScan). goOn o (p .at + length (encodeElement x)) (runAfter (p .scan) (p .run) x) (countAfter (p .scan) (p .count) x)) w in
         let g = subst (λ (o : OptionScan). feedElements (reach o (runAfter (p .scan) (p .run) x) (countAfter (p .scan) (p .count) x)) ms ≡ at q) w e in
-        let r = ih n (after-mark s (p .at) x (encodeElements ms ++ rest) k) g in
+        let r = ih n (after-element s (p .at) x (encodeElements ms ++ rest) k) g in
         let a = length-append (encodeElement x) (encodeElements ms) in
         let m : suc (length ms + f) ≡ length (x ∷ ms) + f = omega arith in
         ap (λ (i : ℕ). readFrom i s two p) (sym m) ∙ read-go (length ms + f) s two p n t ∙ r
@@ -221,7 +221,7 @@ come-on : (s : List ℕ) (two : Bool) (p : Progress) → Come s two p → (m : E
     → Come s two (record { at = p .at + length (encodeElement m); scan = u; run = runAfter (p .scan) (p .run) m; count = countAfter (p .scan) (p .count) m })
 come-on s two p c m post u h q w = record {
   done = c .done ++ (m ∷ []);
-  is = c .is ∙ ap (λ (l : List ℕ). recordIn two (c .done) ++ l) q ∙ record-snoc two (c .done) m post ∙ ap (λ (l : List ℕ). recordIn two (c .done ++ (m ∷ [])) ++ l) (sym (after-mark s (p .at) m post q));
+  is = c .is ∙ ap (λ (l : List ℕ). recordIn two (c .done) ++ l) q ∙ record-snoc two (c .done) m post ∙ ap (λ (l : List ℕ). recordIn two (c .done ++ (m ∷ [])) ++ l) (sym (after-element s (p .at) m post q));
   ranged = all-append two (c .done) (m ∷ []) (c .ranged) (h, tt);
   fed = feed-elements-append (at start) (c .done) (m ∷ []) ∙ ap (λ (o : Reach). feedElements o (m ∷ [])) (c .fed)
       ∙ ap (λ (o : OptionScan). reach o (runAfter (p .scan) (p .run) m) (countAfter (p .scan) (p .count) m)) w;
@@ -310,23 +310,23 @@ exact-from (suc f) s two p b h i c = go two c (seen (drop (p .at) s)) (λ two n 
     Later : Type 0
     Later = (two : Bool) (n : Progress) → length s < f + n .at → n .at ≤ length s → Come s two n → Verdict s (readFrom f s two n)
 
-    at-mark : (two : Bool) → Come s two p → Decoded two l → Later → Verdict s (readFrom (suc f) s two p)
-    at-mark two c d ih = fork (feedElement (p .scan) (p .run) (d .mark)) refl
+    at-element : (two : Bool) → Come s two p → Decoded two l → Later → Verdict s (readFrom (suc f) s two p)
+    at-element two c d ih = fork (feedElement (p .scan) (p .run) (d .element)) refl
       where
-        t : turnOf s two p ≡ goOn (feedElement (p .scan) (p .run) (d .mark)) (p .at + length (encodeElement (d .mark))) (runAfter (p .scan) (p .run) (d .mark)) (countAfter (p .scan) (p .count) (d .mark))
-        t = turn-element s two p (d .mark) (d .rest) (d .is) (d .ranged) (d .version)
+        t : turnOf s two p ≡ goOn (feedElement (p .scan) (p .run) (d .element)) (p .at + length (encodeElement (d .element))) (runAfter (p .scan) (p .run) (d .element)) (countAfter (p .scan) (p .count) (d .element))
+        t = turn-element s two p (d .element) (d .rest) (d .is) (d .ranged) (d .version)
 
-        fork : (o : OptionScan) → feedElement (p .scan) (p .run) (d .mark) ≡ o → Verdict s (readFrom (suc f) s two p)
+        fork : (o : OptionScan) → feedElement (p .scan) (p .run) (d .element) ≡ o → Verdict s (readFrom (suc f) s two p)
         fork none w =
-            grammar (no-way-on s two p c (d .mark) (d .rest) (d .ranged, d .version) (d .is) w)
-            (read-stop f s two p (Refused Grammar) (t ∙ ap (λ (o : OptionScan). goOn o (p .at + length (encodeElement (d .mark))) (runAfter (p .scan) (p .run) (d .mark)) (countAfter (p .scan) (p .count) (d .mark))) w))
+            grammar (no-way-on s two p c (d .element) (d .rest) (d .ranged, d .version) (d .is) w)
+            (read-stop f s two p (Refused Grammar) (t ∙ ap (λ (o : OptionScan). goOn o (p .at + length (encodeElement (d .element))) (runAfter (p .scan) (p .run) (d .element)) (countAfter (p .scan) (p .count) (d .element))) w))
         fork (some u) w =
-            let n : Progress = record { at = p .at + length (encodeElement (d .mark)); scan = u; run = runAfter (p .scan) (p .run) (d .mark); count = countAfter (p .scan) (p .count) (d .mark) } in
-            let g : turnOf s two p ≡ Go n = t ∙ ap (λ (o : OptionScan). goOn o (p .at + length (encodeElement (d .mark))) (runAfter (p .scan) (p .run) (d .mark)) (countAfter (p .scan) (p .count) (d .mark))) w in
-            let e = encode-some (d .mark) in
+            let n : Progress = record { at = p .at + length (encodeElement (d .element)); scan = u; run = runAfter (p .scan) (p .run) (d .element); count = countAfter (p .scan) (p .count) (d .element) } in
+            let g : turnOf s two p ≡ Go n = t ∙ ap (λ (o : OptionScan). goOn o (p .at + length (encodeElement (d .element))) (runAfter (p .scan) (p .run) (d .element)) (countAfter (p .scan) (p .count) (d .element))) w in
+            let e = encode-some (d .element) in
             let v′ = length-drop (p .at) s in
-            let z = ap length (d .is) ∙ length-append (encodeElement (d .mark)) (d .rest) in
-            subst (Verdict s) (sym (read-go f s two p n g)) (ih two n (omega arith) (omega arith) (come-on s two p c (d .mark) (d .rest) u (d .ranged, d .version) (d .is) w))
+            let z = ap length (d .is) ∙ length-append (encodeElement (d .element)) (d .rest) in
+            subst (Verdict s) (sym (read-go f s two p n g)) (ih two n (omega arith) (omega arith) (come-on s two p c (d .element) (d .rest) u (d .ranged, d .version) (d .is) w))
 
     go : (two : Bool) → Come s two p → Seen l (look l) → Later → Verdict s (readFrom (suc f) s two p)
     go two c (seenEnd z q) ih =
@@ -344,9 +344,9 @@ exact-from (suc f) s two p b h i c = go two c (seen (drop (p .at) s)) (λ two n 
           none = λ m r h z. no-look m (sym (look-element m r (h .0)) ∙ subst (λ (v : List ℕ). look v ≡ Bad) z q);
         })
         (read-stop f s two p (Refused Field) (turn-at s two p Bad q))
-    go two c (seenSetup k m a q) ih = at-mark two c (setup-decoded two l (bytes-drop (p .at) s b) k m a) ih
-    go two c (seenOut m q) ih = at-mark two c (out-decoded two l (bytes-drop (p .at) s b) m) ih
-    go true c (seenFailed k m q) ih = at-mark true c (failed-decoded l (bytes-drop (p .at) s b) k m) ih
+    go two c (seenSetup k m a q) ih = at-element two c (setup-decoded two l (bytes-drop (p .at) s b) k m a) ih
+    go two c (seenOut m q) ih = at-element two c (out-decoded two l (bytes-drop (p .at) s b) m) ih
+    go true c (seenFailed k m q) ih = at-element true c (failed-decoded l (bytes-drop (p .at) s b) k m) ih
     go false c (seenFailed k m q) ih =
         field (record {
           two = false;
@@ -474,9 +474,9 @@ bad-turn s two p l e b m n = go two n (seen l)
     go : (two : Bool) → ((m : Element) (r : List ℕ) → Ranged two m → l ≡ encodeElement m ++ r → ⊥) → Seen l (look l) → turnOf s two p ≡ Stop (Refused Field)
     go two n (seenEnd z q) = absurd (m (nil-of l z))
     go two n (seenBad q) = turn-at s two p Bad (ap look e ∙ q)
-    go two n (seenSetup k j a q) = let d = setup-decoded two l b k j a in absurd (n (d .mark) (d .rest) (d .ranged, d .version) (d .is))
-    go two n (seenOut j q) = let d = out-decoded two l b j in absurd (n (d .mark) (d .rest) (d .ranged, d .version) (d .is))
-    go true n (seenFailed k j q) = let d = failed-decoded l b k j in absurd (n (d .mark) (d .rest) (d .ranged, d .version) (d .is))
+    go two n (seenSetup k j a q) = let d = setup-decoded two l b k j a in absurd (n (d .element) (d .rest) (d .ranged, d .version) (d .is))
+    go two n (seenOut j q) = let d = out-decoded two l b j in absurd (n (d .element) (d .rest) (d .ranged, d .version) (d .is))
+    go true n (seenFailed k j q) = let d = failed-decoded l b k j in absurd (n (d .element) (d .rest) (d .ranged, d .version) (d .is))
     go false n (seenFailed k j q) = turn-at s false p (Failed _) (ap look e ∙ q)
 
 bytes-left : (a b : List ℕ) → Bytes (a ++ b) → Bytes a
@@ -535,13 +535,13 @@ join-ranged (e ∷ a) b h k = (h .0, join-ranged a b (h .1) k)
 pub first-ranged : (es : List Entry) → FirstPart es → AllInRange es
 first-ranged es k = left-ranged es (k .rest) (subst AllInRange (sym (k .is)) (part-ranged (k .part) (k .fits)))
 
-marks-ranged : (ss : List Segment) (ps : List Part) → SegmentsFit ss → AllFit ps → AllRanged true (elements ss ps)
-marks-ranged [] ps f g = map-ranged (written ps) (entries-ranged ps g)
-marks-ranged (s ∷ ss) ps f g =
+elements-ranged : (ss : List Segment) (ps : List Part) → SegmentsFit ss → AllFit ps → AllRanged true (elements ss ps)
+elements-ranged [] ps f g = map-ranged (written ps) (entries-ranged ps g)
+elements-ranged (s ∷ ss) ps f g =
     let es = written (s .whole) ++ s .first in
     let n = first-few (s .first) (f .0 .1) in
     all-append true (map entry es) (failed (length (s .first)) ∷ elements ss ps) (map-ranged es (join-ranged (written (s .whole)) (s .first) (entries-ranged (s .whole) (f .0 .0)) (first-ranged (s .first) (f .0 .1))))
-    ((omega arith, refl), marks-ranged ss ps (f .1) g)
+    ((omega arith, refl), elements-ranged ss ps (f .1) g)
 
 plain-true : (ms : List Element) → AllRanged true ms → Plain ms → AllRanged false ms
 plain-true [] h p = tt
@@ -549,10 +549,10 @@ plain-true (entry e ∷ ms) h p = ((h .0 .0, tt), plain-true ms (h .1) p)
 plain-true (failed m ∷ ms) h p = absurd p
 
 reads-ranged : (two : Bool) (ms : List Element) → Reads two ms → AllRanged two ms
-reads-ranged true ms r = let k = r .reading in subst (AllRanged true) (k .is) (marks-ranged (k .segments) (k .last) (k .segments-fit) (k .last-fit))
+reads-ranged true ms r = let k = r .reading in subst (AllRanged true) (k .is) (elements-ranged (k .segments) (k .last) (k .segments-fit) (k .last-fit))
 reads-ranged false ms r =
     let k = r .reading in
-    let h : AllRanged true ms = subst (AllRanged true) (k .is) (marks-ranged (k .segments) (k .last) (k .segments-fit) (k .last-fit)) in
+    let h : AllRanged true ms = subst (AllRanged true) (k .is) (elements-ranged (k .segments) (k .last) (k .segments-fit) (k .last-fit)) in
     let e : map entry (written (k .last)) ≡ ms = ap (λ (ss : List Segment). elements ss (k .last)) (sym (r .plain refl)) ∙ k .is in
     plain-true ms h (subst Plain e (plain-append [] (written (k .last)) tt))
 

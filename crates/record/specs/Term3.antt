@@ -54,11 +54,12 @@ pub record Recorded (f : File) (cs : List Call) : Type 0 where
   pub packets : map entries (unfailed (reading .segments) (reading .last)) ≡ map armedBy (listed (endedOf (fates cs)))
   pub firsts : FirstsOf (reading .segments) (brokenOf (fates cs))
 
--- "each started transfer ended with a count": then the record has no count, and its reading is the transfers begun.
+-- "each started transfer ended with a count": then the record has no count, and its one reading is the transfers begun.
 pub record Unbroken (f : File) (cs : List Call) : Type 0 where
   pub record-is : List Entry
   pub is : wireRecord f cs ≡ map entry record-is
   pub reading : PlainReading record-is
+  pub only : (r : PlainReading record-is) → r .parts ≡ reading .parts
   pub transfers : map item (reading .parts) ≡ map itemOf (listed (begunFrom fresh cs))
   pub packets : map entries (reading .parts) ≡ map armedBy (listed (begunFrom fresh cs))
 
