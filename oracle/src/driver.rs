@@ -15,12 +15,14 @@ use crate::transfer::{extras, number, Transfer};
 use std::pin::Pin;
 use std::task::{Context, Poll, Waker};
 
+/// A refused call did nothing; a failed step ended its transfer in an error.
 pub enum Answer {
     Ok,
     Begun,
     Waiting { again: bool },
     Done { count: usize, toggle: Option<bool> },
     Refused(u8),
+    Failed(u8),
     Cancelled,
     Closed,
     Pipe(u8),
@@ -124,7 +126,7 @@ impl Driver {
                 count,
                 toggle: transfer.toggle(),
             },
-            Poll::Ready(Err(number)) => Answer::Refused(number),
+            Poll::Ready(Err(number)) => Answer::Failed(number),
         };
         if polled.is_ready() {
             self.transfer = None;

@@ -21,6 +21,8 @@ pub struct Player<W> {
     pub under_way: Option<UnderWay>,
     /// Pipe n at n - 1.
     pub open: [bool; 15],
+    /// Transfers that failed or were cancelled so far.
+    pub failures: u64,
     /// Begins, steps, cancels, opens, closes, polls, interrupts and detections so far,
     /// refused ones too.
     pub calls: u64,
@@ -52,6 +54,7 @@ impl<W: Write> Player<W> {
             bus: Bus::default(),
             under_way: None,
             open: [false; 15],
+            failures: 0,
             calls: 0,
         }
     }
@@ -110,12 +113,14 @@ impl<W: Write> Player<W> {
 
     fn note(&mut self, line: &Line, report: &Report) {
         self.bus.see(&report.log);
+        self.failures += u64::from(report.failed.is_some());
         match (line, &report.answer) {
             (Line::Begin(begin), Answer::Begun) => {
                 self.under_way = Some(UnderWay::of(begin));
             }
-            (_, Answer::Done { .. } | Answer::Cancelled) => self.under_way = None,
-            (Line::Step(_), Answer::Refused(1..=7 | 9)) => self.under_way = None,
+            (_, Answer::Done { .. } | Answer::Failed(_) | Answer::Cancelled) => {
+                self.under_way = None;
+            }
             (_, Answer::Pipe(n)) => self.open[usize::from(*n) - 1] = true,
             (Line::Close(n), Answer::Closed) => self.open[usize::from(*n) - 1] = false,
             _ => {}

@@ -23,6 +23,9 @@ pub fn unreadable(out: &mut impl Write, number: u64) -> io::Result<()> {
 
 fn call(out: &mut impl Write, report: &Report) -> io::Result<()> {
     answer(out, &report.answer)?;
+    if let Some(count) = report.failed {
+        writeln!(out, "failed {count}")?;
+    }
     // The oracle's log is a list: no word past the writes can change, so there is never
     // a `log` line.
     for write in &report.log {
@@ -50,7 +53,9 @@ fn answer(out: &mut impl Write, answer: &Answer) -> io::Result<()> {
             };
             writeln!(out, "done {count} {toggle}")
         }
-        Answer::Refused(number) => writeln!(out, "refused {number}"),
+        Answer::Refused(number) | Answer::Failed(number) => {
+            writeln!(out, "refused {number}")
+        }
         Answer::Cancelled => writeln!(out, "cancelled"),
         Answer::Closed => writeln!(out, "closed"),
         Answer::Pipe(n) => writeln!(out, "pipe {n}"),

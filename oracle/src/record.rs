@@ -15,7 +15,9 @@ pub const SEND_SETUP: u32 = 2;
 const AVAILABLE: u32 = 1 << 10;
 const FULL: u32 = 1 << 15;
 
-const HEAD: [u8; 5] = *b"WLG\x01\x00";
+const HEAD: [u8; 5] = *b"WLG\x02\x00";
+/// The kind of the entry that holds a count.
+const FAILED: u8 = 0x58;
 const ROOM: usize = 131_072;
 const NO_ROOM: u8 = 21;
 
@@ -132,9 +134,14 @@ impl Record {
         }
     }
 
-    /// The entries of one call, or none of them if they don't fit.
-    pub fn append(&mut self, armed: &[Entry]) {
-        let new: Vec<u8> = armed.iter().flat_map(encoded).collect();
+    /// The entries of one call and the count of a transfer that failed or was cancelled,
+    /// or nothing if they don't fit together.
+    pub fn append(&mut self, armed: &[Entry], failed: Option<u32>) {
+        let mut new: Vec<u8> = armed.iter().flat_map(encoded).collect();
+        if let Some(count) = failed {
+            new.push(FAILED);
+            new.extend(count.to_le_bytes());
+        }
         if self.bytes.len() + new.len() > ROOM {
             self.refused = true;
         } else {
@@ -227,24 +234,61 @@ mod tests {
         assert_eq!(registers.armed(&log, &packet_memory), []);
     }
 
-    #[test]
-    fn refuses_what_no_longer_fits() {
-        let out = Entry::Out {
+    fn out(length: usize) -> Entry {
+        Entry::Out {
             address: 0,
             endpoint: 1,
             pid: 0,
             last: 0,
-            bytes: vec![0; 64],
-        };
-        let mut record = Record::new();
-        let fitting = (ROOM - HEAD.len()) / 70;
-        for _ in 0..fitting {
-            record.append(std::slice::from_ref(&out));
+            bytes: vec![0; length],
         }
-        assert_eq!(record.bytes().unwrap().len(), 5 + 70 * fitting);
-        record.append(&[]);
+    }
+
+    /// A record with room for 27 bytes more.
+    fn nearly_full() -> Record {
+        let mut record = Record::new();
+        for _ in 0..1872 {
+            record.append(&[out(64)], None);
+        }
+        assert_eq!(record.bytes().unwrap().len(), ROOM - 27);
+        record
+    }
+
+    #[test]
+    fn a_count_follows_the_entries() {
+        let mut record = Record::new();
+        record.append(&[out(1)], Some(0x0102_0304));
+        record.append(&[], Some(0));
+        let entry = [0x4f, 0, 1, 0, 0, 1, 0];
+        let counts = [0x58, 4, 3, 2, 1, 0x58, 0, 0, 0, 0];
+        assert_eq!(
+            record.bytes().unwrap(),
+            [b"WLG\x02\x00", &entry[..], &counts].concat()
+        );
+    }
+
+    #[test]
+    fn refuses_what_no_longer_fits() {
+        let mut record = nearly_full();
+        record.append(&[], None);
         assert!(record.bytes().is_ok());
-        record.append(&[out]);
+        record.append(&[out(64)], None);
+        assert_eq!(record.bytes(), Err(21));
+        // Until it is emptied, even what would fit.
+        record.append(&[], Some(1));
+        assert_eq!(record.bytes(), Err(21));
+    }
+
+    #[test]
+    fn a_count_fits_whole_or_not_at_all() {
+        let mut record = nearly_full();
+        record.append(&[out(16)], Some(1));
+        assert_eq!(record.bytes().unwrap().len(), ROOM);
+        record.append(&[], Some(1));
+        assert_eq!(record.bytes(), Err(21));
+        // The packet alone would fit.
+        let mut record = nearly_full();
+        record.append(&[out(17)], Some(1));
         assert_eq!(record.bytes(), Err(21));
     }
 }

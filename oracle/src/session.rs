@@ -15,6 +15,8 @@ pub enum Block {
 
 pub struct Report {
     pub answer: Answer,
+    /// How many entries a transfer that failed or was cancelled had started.
+    pub failed: Option<u32>,
     pub log: Vec<Write>,
     pub armed: Vec<Entry>,
     pub packet_memory: Vec<Run>,
@@ -25,6 +27,7 @@ impl Report {
     fn ok() -> Self {
         Self {
             answer: Answer::Ok,
+            failed: None,
             log: Vec::new(),
             armed: Vec::new(),
             packet_memory: Vec::new(),
@@ -40,6 +43,8 @@ pub struct Session {
     next_buffer: Option<Vec<u8>>,
     /// The registers as the logs leave them.
     registers: Registers,
+    /// The entries that the logs started since the last begin that was not refused.
+    entries: u32,
     record: Record,
 }
 
@@ -50,6 +55,7 @@ impl Session {
             lent: Lent::whole(),
             next_buffer: None,
             registers: Registers::default(),
+            entries: 0,
             record: Record::new(),
         }
     }
@@ -111,14 +117,26 @@ impl Session {
         let log = memory::take_log();
         let after = memory::packet_memory();
         let armed = self.registers.armed(&log, &after);
-        self.record.append(&armed);
+        let failed = self.count(&answer, armed.len() as u32);
+        self.record.append(&armed, failed);
         Report {
             answer,
+            failed,
             log,
             armed,
             packet_memory: runs::changed(&before, &after),
             buffer,
         }
+    }
+
+    /// Counts the entries of a call; the count is answered where the Rust's future ended
+    /// in an error or was dropped.
+    fn count(&mut self, answer: &Answer, armed: u32) -> Option<u32> {
+        if matches!(answer, Answer::Begun) {
+            self.entries = 0;
+        }
+        self.entries += armed;
+        matches!(answer, Answer::Failed(_) | Answer::Cancelled).then_some(self.entries)
     }
 
     /// A register as the logs so far leave it.

@@ -54,6 +54,12 @@ fn lending() {
     check("lending");
 }
 
+/// Failed and cancelled transfers, and calls that are refused.
+#[test]
+fn failed_transfers() {
+    check("failed");
+}
+
 #[test]
 fn unreadable_lines() {
     check("unreadable");

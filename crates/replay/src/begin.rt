@@ -14,6 +14,7 @@ use script::command::Control;
 use script::command::Setup;
 use script::text::put;
 use transfers::answers::BeginAnswer;
+use transfers::answers::OptionEntries;
 use transfers::control::Begun;
 use transfers::host_controller::DataPhase;
 use transfers::host_controller::TransferExtras;
@@ -84,7 +85,7 @@ fn finish(
     let at = print_begun(out, s.at, a);
     let at = print_effects(out, at, log, b.writes, armed, old, pm);
     s.at = block_end(out, at);
-    write_record(s, armed, pm, record)
+    write_record(s, armed, OptionEntries::None, pm, record)
 }
 
 // The driver's begins, on what is lent.

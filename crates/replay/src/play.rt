@@ -172,7 +172,7 @@ fn run(
         Command::BulkOut(c) => bulk_out(s, c, pm, buf, bytes, record, out),
         Command::StepIn(c) => step_in(s, c, pm, buf, own, bytes, record, out),
         Command::StepOut(c) => step_out(s, c, pm, buf, own, record, out),
-        Command::Cancel => crate::step::cancel(s, out),
+        Command::Cancel => crate::step::cancel(s, pm, record, out),
         Command::Open(c) => open(s, c, out),
         Command::Close(n) => close(s, n, out),
         Command::Poll(c) => poll(s, c, pm, out),

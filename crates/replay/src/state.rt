@@ -4,6 +4,7 @@ use record::writer::AppendAnswer;
 use record::writer::append;
 use script::text::put;
 use transfers::answers::Armed;
+use transfers::answers::OptionEntries;
 use transfers::answers::OptionOut;
 use transfers::answers::OptionSetup;
 use transfers::driver::Driver;
@@ -24,7 +25,7 @@ pub struct State {
     pub at: usize,
 }
 
-fn nothing_armed() -> Armed {
+pub fn nothing_armed() -> Armed {
     Armed {
         setup: OptionSetup::None,
         first: OptionOut::None,
@@ -51,15 +52,27 @@ fn empty_state() -> State {
 pub fn fresh_state(pm: &mut [u8], record: &mut [u8]) -> State {
     let zeros = [0u8; 4096];
     put(pm, 0, &zeros);
-    write_record(empty_state(), nothing_armed(), pm, record)
+    write_record(
+        empty_state(),
+        nothing_armed(),
+        OptionEntries::None,
+        pm,
+        record,
+    )
 }
 
-// Appends what a call armed; a refusal stands until the next `fresh`.
-pub fn write_record(mut s: State, armed: Armed, pm: &[u8], record: &mut [u8]) -> State {
+// Appends what a call armed, or the count of a transfer that failed; a refusal stands until the next `fresh`.
+pub fn write_record(
+    mut s: State,
+    armed: Armed,
+    failed: OptionEntries,
+    pm: &[u8],
+    record: &mut [u8],
+) -> State {
     if s.refused != 0 {
         return s;
     }
-    let a = append(armed, pm, record, s.used);
+    let a = append(armed, failed, pm, record, s.used);
     match a {
         AppendAnswer::Used(n) => {
             s.used = n;

@@ -10,12 +10,14 @@ use crate::print::number_of;
 use crate::print::refused;
 use crate::runs::print_runs;
 use crate::state::State;
+use crate::state::nothing_armed;
 use crate::state::write_record;
 use crate::within::within;
 use crate::within::within_words;
 use script::command::Stepping;
 use script::text::put;
 use transfers::answers::CancelAnswer;
+use transfers::answers::OptionEntries;
 use transfers::answers::StepAnswer;
 use transfers::control::Stepped;
 use transfers::refusal::number;
@@ -44,6 +46,20 @@ fn print_stepped(out: &mut [u8], at: usize, a: StepAnswer, bulk: bool, toggle: b
     }
 }
 
+// Of a transfer that failed or was cancelled, how many entries it had armed.
+fn print_failed(out: &mut [u8], at: usize, failed: OptionEntries) -> usize {
+    match failed {
+        OptionEntries::None => at,
+        OptionEntries::Some(n) => print_count(out, at, n as u64),
+    }
+}
+
+fn print_count(out: &mut [u8], at: usize, n: u64) -> usize {
+    let at = put(out, at, b"failed");
+    let at = item(out, at, n);
+    end(out, at)
+}
+
 fn report(
     mut s: State,
     p: Stepped,
@@ -56,10 +72,12 @@ fn report(
     let next = p.next;
     let a = p.answer;
     let armed = p.armed;
+    let failed = p.failed;
     s.driver = next;
     let at = print_stepped(out, s.at, a, s.bulk, p.toggle);
+    let at = print_failed(out, at, failed);
     s.at = print_effects(out, at, log, p.writes, armed, old, pm);
-    write_record(s, armed, pm, record)
+    write_record(s, armed, failed, pm, record)
 }
 
 fn sample_of(c: Stepping) -> Sample {
@@ -158,13 +176,15 @@ fn print_cancel(out: &mut [u8], at: usize, a: CancelAnswer) -> usize {
     }
 }
 
-pub fn cancel(mut s: State, out: &mut [u8]) -> State {
+pub fn cancel(mut s: State, pm: &[u8], record: &mut [u8], out: &mut [u8]) -> State {
     let d = s.driver;
     let c = d.cancel();
     let next = c.next;
     let a = c.answer;
+    let failed = c.failed;
     s.driver = next;
     let at = print_cancel(out, s.at, a);
+    let at = print_failed(out, at, failed);
     s.at = block_end(out, at);
-    s
+    write_record(s, nothing_armed(), failed, pm, record)
 }

@@ -1,7 +1,7 @@
 //! Scripts of refused calls and limits.
 
 use super::Generator;
-use crate::player::UnderWay;
+use crate::player::{UnderWay, ERRORS};
 use crate::script::Way;
 use std::io::{self, Write};
 
@@ -14,6 +14,7 @@ impl<W: Write> Generator<W> {
         });
         match self.rng.below(600) {
             0 if self.rng.once_in(10) => self.long_transfers(),
+            1 if self.rng.once_in(20) => self.brimful(),
             0..10 => self.full_pool(),
             10..40 => self.short_loan(),
             40..60 => self.line("cancel"),
@@ -142,7 +143,8 @@ impl<W: Write> Generator<W> {
         self.line("lend 4096 192")
     }
 
-    /// The longest transfers, with a sound device; two OUTs fill the record.
+    /// The longest transfers, with a sound device; two OUTs fill the record. One in three
+    /// is broken off.
     fn long_transfers(&mut self) -> io::Result<()> {
         if self.player.under_way.is_some() {
             self.line("cancel")?;
@@ -158,13 +160,54 @@ impl<W: Write> Generator<W> {
                 _ => format!("bulk-out 127 15 64 {kind} 0 seq:65472:0:1"),
             };
             self.line(&text)?;
-            while let Some(under_way) = self.player.under_way {
-                let (sie_status, intr) = self.device_acts(10_000)?;
-                let buffer_control = self.player.bus.buffer_control;
-                self.step(under_way.way, sie_status, intr, buffer_control)?;
-            }
+            let steps = match self.rng.once_in(3) {
+                true => self.rng.below(600),
+                false => u64::MAX,
+            };
+            self.go_on(steps)?;
+            self.break_off()?;
             self.line("record")?;
         }
         Ok(())
+    }
+
+    /// A record with room for 0 to 15 bytes more, and then a count.
+    fn brimful(&mut self) -> io::Result<()> {
+        self.line("fresh")?;
+        self.line("bulk-out 127 15 64 fixed 0 seq:65535:0:1")?;
+        self.go_on(u64::MAX)?;
+        // 54,289 would leave 5.
+        let length = 54_279 + self.rng.below(16);
+        self.line(&format!("bulk-out 127 15 64 fixed 0 seq:{length}:0:1"))?;
+        for _ in 0..length / 128 {
+            self.step(Way::Out, 0, 0x10, 0)?;
+        }
+        self.break_off()?;
+        self.line("record")
+    }
+
+    /// Up to so many steps with a sound device.
+    fn go_on(&mut self, steps: u64) -> io::Result<()> {
+        for _ in 0..steps {
+            let Some(under_way) = self.player.under_way else {
+                break;
+            };
+            let (sie_status, intr) = self.device_acts(10_000)?;
+            let buffer_control = self.player.bus.buffer_control;
+            self.step(under_way.way, sie_status, intr, buffer_control)?;
+        }
+        Ok(())
+    }
+
+    /// The transfer under way, if there is one, is cancelled or fails.
+    fn break_off(&mut self) -> io::Result<()> {
+        match self.player.under_way {
+            Some(under_way) if self.rng.bit() => {
+                let error = self.rng.pick(&ERRORS);
+                self.step(under_way.way, error, 0x10, 0)
+            }
+            Some(_) => self.line("cancel"),
+            None => Ok(()),
+        }
     }
 }

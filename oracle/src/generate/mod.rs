@@ -53,11 +53,15 @@ pub fn generate(seed: u64, calls: u64, kind: Kind, out: impl Write) -> io::Resul
             generator.line("record")?;
             generator.line("fresh")?;
         }
+        let failures = generator.player.failures;
         match kind {
             Kind::Well => generator.well()?,
             Kind::Hostile => generator.hostile()?,
             Kind::Edge => generator.edge()?,
             Kind::Mangled => generator.mangled()?,
+        }
+        if generator.player.failures > failures {
+            generator.after_a_failure()?;
         }
     }
     generator.line("record")?;
@@ -78,6 +82,18 @@ impl<W: Write> Generator<W> {
             return self.player.line(&text);
         }
         self.player.line(text.as_bytes())
+    }
+
+    /// A transfer failed or was cancelled: the record, one time in four; seldom a cancel
+    /// of nothing before it.
+    fn after_a_failure(&mut self) -> io::Result<()> {
+        if self.rng.once_in(16) {
+            self.line("cancel")?;
+        }
+        if self.rng.once_in(4) {
+            self.line("record")?;
+        }
+        Ok(())
     }
 }
 

@@ -10,7 +10,7 @@ impl<W: Write> Generator<W> {
     pub fn well(&mut self) -> io::Result<()> {
         match (self.player.under_way, self.rng.below(100)) {
             (_, 0..15) => self.side_call(),
-            (Some(_), 15) if self.rng.once_in(3) => self.line("cancel"),
+            (Some(_), 15) => self.line("cancel"),
             (Some(under_way), _) => self.sound_step(under_way),
             (None, _) => self.sound_begin(),
         }
@@ -20,7 +20,7 @@ impl<W: Write> Generator<W> {
         let (sie_status, intr) = match self.rng.below(100) {
             // No interrupt yet.
             0..8 => (0, self.rng.pick(&[0, 1])),
-            8 => {
+            8..11 => {
                 let interrupt = self.rng.pick(&[0x40, 0x400, INTR_BUFF_STATUS]);
                 (self.rng.pick(&ERRORS), interrupt)
             }

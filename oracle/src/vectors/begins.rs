@@ -77,8 +77,9 @@ impl<W: Write> Vectors<W> {
                         self.try_begin(&bulk(way, size, kind, toggle, length))?;
                     }
                 }
+                self.line("record")?;
             }
         }
-        self.line("record")
+        Ok(())
     }
 }

@@ -5,6 +5,7 @@ mod begins;
 mod bulk;
 mod control;
 mod differences;
+mod failures;
 mod pipes;
 mod record;
 mod refusals;
@@ -27,6 +28,7 @@ pub fn vectors(out: impl Write) -> io::Result<()> {
     vectors.begins()?;
     vectors.samples()?;
     vectors.stages()?;
+    vectors.failures()?;
     vectors.slots()?;
     vectors.bulk()?;
     vectors.control()?;

@@ -37,9 +37,9 @@ impl<W: Write> Vectors<W> {
         self.step(stage.way, 0, 0, 0)
     }
 
+    /// Each error alone is among the failures.
     fn errors(&mut self, stage: &Stage) -> io::Result<()> {
         for error in ERRORS {
-            self.sample(stage, "error", error, INTR_BUFF_STATUS)?;
             self.sample(
                 stage,
                 "complete and error",

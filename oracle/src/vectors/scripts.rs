@@ -1,15 +1,16 @@
-//! The scripts of the oracle's own tests: document 01's table, lending, and
-//! lines that can't be read.
+//! The scripts of the oracle's own tests: document 01's table, lending, failed transfers,
+//! and lines that can't be read.
 
 use super::Vectors;
 use std::io::{self, Write};
 
-const SCRIPTS: [&str; 6] = [
+const SCRIPTS: [&str; 7] = [
     include_str!("../../tests/scripts/golden.script"),
     include_str!("../../tests/scripts/table.script"),
     include_str!("../../tests/scripts/control.script"),
     include_str!("../../tests/scripts/pipes.script"),
     include_str!("../../tests/scripts/lending.script"),
+    include_str!("../../tests/scripts/failed.script"),
     UNREADABLE,
 ];
 

@@ -39,6 +39,16 @@ pub const OUT_DATA: Stage = Stage {
     way: Way::Out,
     lines: &[OUT, "step-out 0x40000 8 0"],
 };
+pub const STATUS_OF_OUT: Stage = Stage {
+    name: "status of an Out",
+    way: Way::Out,
+    lines: &[OUT, "step-out 0x40000 8 0", "step-out 0x40000 0x18 0"],
+};
+pub const STATUS_OF_NONE: Stage = Stage {
+    name: "status of a None",
+    way: Way::In,
+    lines: &[NONE, "step-in 0x40000 8 0"],
+};
 
 pub const STAGES: [Stage; 10] = [
     SETUP,
@@ -54,21 +64,13 @@ pub const STAGES: [Stage; 10] = [
         lines: &[OUT],
     },
     OUT_DATA,
-    Stage {
-        name: "status of an Out",
-        way: Way::Out,
-        lines: &[OUT, "step-out 0x40000 8 0", "step-out 0x40000 0x18 0"],
-    },
+    STATUS_OF_OUT,
     Stage {
         name: "SETUP of a None",
         way: Way::In,
         lines: &[NONE],
     },
-    Stage {
-        name: "status of a None",
-        way: Way::In,
-        lines: &[NONE, "step-in 0x40000 8 0"],
-    },
+    STATUS_OF_NONE,
     BULK_IN,
     BULK_OUT,
 ];
@@ -77,7 +79,7 @@ impl<W: Write> Vectors<W> {
     pub fn stages(&mut self) -> io::Result<()> {
         for stage in &STAGES {
             self.unmoved(stage)?;
-            self.cancelled(stage)?;
+            self.begun_again(stage)?;
             self.lent_bytes(stage)?;
         }
         Ok(())
@@ -119,11 +121,11 @@ impl<W: Write> Vectors<W> {
         self.line("record")
     }
 
-    fn cancelled(&mut self, stage: &Stage) -> io::Result<()> {
+    fn begun_again(&mut self, stage: &Stage) -> io::Result<()> {
         self.reach(stage, "cancel, and the next begin")?;
         self.line("cancel")?;
         self.step(stage.way, 0x40000, 8, 0)?;
-        self.lines(&["cancel", "bulk-in 5 2 8 fixed 0 9", "cancel", "record"])
+        self.lines(&["bulk-in 5 2 8 fixed 0 9", "cancel", "record"])
     }
 
     /// Other bytes for one step; the step after it is lent begin's again.
