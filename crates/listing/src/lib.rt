@@ -56,19 +56,28 @@ fn print_bulk(b: BulkItem) {
     io::write_all(STDOUT_FILENO, b"\n");
 }
 
-fn print_item(s: &[u8], cursor: Cursor) -> Cursor {
+// The next cursor, or no more items.
+enum Turn {
+    More(Cursor),
+    Ended,
+}
+
+// The item at a cursor, if it didn't fail.
+fn print_item(s: &[u8], cursor: Cursor) -> Turn {
     let answer = item(s, cursor);
     match answer {
         ItemAnswer::Control(c) => {
             print_control(s, c);
-            c.next
+            let next = c.next;
+            Turn::More(next)
         }
         ItemAnswer::Bulk(b) => {
             print_bulk(b);
-            b.next
+            let next = b.next;
+            Turn::More(next)
         }
-        ItemAnswer::Failed(next) => next,
-        ItemAnswer::End => cursor,
+        ItemAnswer::Failed(next) => Turn::More(next),
+        ItemAnswer::End => Turn::Ended,
     }
 }
 
@@ -78,10 +87,19 @@ pub fn print_refusal(refusal: Refusal) {
     io::write_all(STDOUT_FILENO, b"\n");
 }
 
-fn print_items(s: &[u8], count: usize) {
+// The items up to the end. Each has at least one byte in the record, so as many items as bytes are enough.
+fn print_items(s: &[u8]) {
     let mut cursor = first();
-    for _ in 0..count {
-        cursor = print_item(s, cursor);
+    for _ in 0..s.len() {
+        let turn = print_item(s, cursor);
+        match turn {
+            Turn::More(next) => {
+                cursor = next;
+            }
+            Turn::Ended => {
+                return;
+            }
+        }
     }
 }
 
@@ -89,8 +107,7 @@ fn print_transfers(s: &[u8], count: usize) {
     io::write_all(STDOUT_FILENO, b"WLG");
     print_number(version(s) as usize);
     io::write_all(STDOUT_FILENO, b"\n");
-    // Each transfer and each count takes at least a byte; past the end nothing is printed.
-    print_items(s, s.len());
+    print_items(s);
     io::write_all(STDOUT_FILENO, b"end");
     print_number(count);
     io::write_all(STDOUT_FILENO, b"\n");
