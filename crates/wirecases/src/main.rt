@@ -53,8 +53,12 @@ fn print_lines(text: &[u8], room: &mut [u8; 131072]) {
 }
 
 fn main() {
-    let mut text = [0u8; 400000];
+    let mut text = [0u8; 600000];
     let mut room = [0u8; 131072];
     let n = io::read_full(STDIN_FILENO, &mut text);
+    if n == 600000 {
+        io::write_all(STDOUT_FILENO, b"too long\n");
+        return;
+    }
     print_lines(&text[..n], &mut room);
 }
