@@ -12,7 +12,7 @@ use Rattle.transfers.specs.Log.{Write, Wrote}
 use Rattle.transfers.specs.Outcome.{Outcome, after}
 use Rattle.transfers.specs.Acts.{told, Tells, Moves, Acts}
 use Rattle.transfers.specs.Entries.{entriesStepped, failedStep}
-use Rattle.transfers.specs.Driver.{withTransfer}
+use Rattle.transfers.specs.Driver.{withTransfer, stepped}
 use Rattle.transfers.proofs.Logs.{then}
 
 -- A result that tells an outcome, with its writes put.
@@ -41,9 +41,11 @@ moves-at {l = l} {l′ = l′} {m = m} {k = k} {r = r} e t = subst (λ (o : Outc
 -- A step's result, lifted to the driver with the count of entries.
 pub lifted : (d : Driver) (o : Outcome) (p : Progress) (next : Driver) (n : ℕ) (x : OptionEntries) → p ≡ told o (0 + length (o .writes)) → next ≡ withTransfer d (p .next) n
     → n ≡ entriesStepped (p .answer) (d .entries) (p .armed) → x ≡ failedStep (p .answer) (d .entries)
-    → _≡_ {A = Stepped} (record { next = next; answer = p .answer; toggle = p .toggle; armed = p .armed; failed = x; writes = p .writes })
-    (record { next = withTransfer d (o .next) (entriesStepped (o .answer) (d .entries) (o .armed)); answer = o .answer; toggle = o .toggle; armed = o .armed; failed = failedStep (o .answer) (d .entries); writes = length (o .writes) })
+    → _≡_ {A = Stepped} (record { next = next; answer = p .answer; toggle = p .toggle; armed = p .armed; failed = x; writes = p .writes }) (stepped d o)
 lifted d o p next n x e h k f =
     ap₂ (λ (u : Driver) (v : OptionEntries). record { next = u; answer = p .answer; toggle = p .toggle; armed = p .armed; failed = v; writes = p .writes }) (h ∙ ap (withTransfer d (p .next)) k) f
-    ∙ ap (λ (q : Progress). record { next = withTransfer d (q .next) (entriesStepped (q .answer) (d .entries) (q .armed)); answer = q .answer; toggle = q .toggle; armed = q .armed; failed = failedStep (q .answer) (d .entries); writes = q .writes }) e
-    ∙ ap (λ (w : ℕ). record { next = withTransfer d (o .next) (entriesStepped (o .answer) (d .entries) (o .armed)); answer = o .answer; toggle = o .toggle; armed = o .armed; failed = failedStep (o .answer) (d .entries); writes = w }) (zero-add (length (o .writes)))
+    ∙ ap (lift d) e
+    ∙ ap (λ (w : ℕ). lift d (told o w)) (zero-add (length (o .writes)))
+  where
+    lift : Driver → Progress → Stepped
+    lift d q = record { next = withTransfer d (q .next) (entriesStepped (q .answer) (d .entries) (q .armed)); answer = q .answer; toggle = q .toggle; armed = q .armed; failed = failedStep (q .answer) (d .entries); writes = q .writes }

@@ -24,18 +24,33 @@ fresh = record { transfer = Idle; entries = 0; pipes = freshPipes; last = Absent
 abbrev pub withTransfer : Driver → Transfer → ℕ → Driver
 withTransfer d t n = record { transfer = t; entries = n; pipes = d .pipes; last = d .last }
 
+-- What the driver's begin hands back.
+abbrev pub begun : Driver → Beginning → Begun
+begun d o = record { next = withTransfer d (o .next) (entriesBegun (o .answer) (d .entries) (o .armed)); answer = o .answer; armed = o .armed; writes = length (o .writes) }
+
+-- What its step hands back.
+abbrev pub stepped : Driver → Outcome → Stepped
+stepped d o = record {
+  next = withTransfer d (o .next) (entriesStepped (o .answer) (d .entries) (o .armed));
+  answer = o .answer;
+  toggle = o .toggle;
+  armed = o .armed;
+  failed = failedStep (o .answer) (d .entries);
+  writes = length (o .writes);
+}
+
+-- What its cancel hands back.
+abbrev pub dropped : Driver → Cancelling → Dropped
+dropped d o = record { next = withTransfer d (o .next) (entriesCancelled (o .answer) (d .entries)); answer = o .answer; toggle = o .toggle; failed = failedCancel (o .answer) (d .entries) }
+
 -- A begin's results: the answer with the next state, packet memory, and the log.
 pub record DidBegin (d : Driver) (o : Beginning) (l : List ℕ) (r : Begun) (m′ l′ : List ℕ) : Type 0 where
-  pub result : r ≡ record { next = withTransfer d (o .next) (entriesBegun (o .answer) (d .entries) (o .armed)); answer = o .answer; armed = o .armed; writes = length (o .writes) }
+  pub result : r ≡ begun d o
   pub memory : m′ ≡ o .memory
   pub log : l′ ≡ logged l 0 (o .writes)
 
 -- A step's results.
 pub record DidStep (d : Driver) (o : Outcome) (l : List ℕ) (r : Stepped) (m′ l′ : List ℕ) : Type 0 where
-  pub result : r ≡ record { next = withTransfer d (o .next) (entriesStepped (o .answer) (d .entries) (o .armed)); answer = o .answer; toggle = o .toggle; armed = o .armed; failed = failedStep (o .answer) (d .entries); writes = length (o .writes) }
+  pub result : r ≡ stepped d o
   pub memory : m′ ≡ o .memory
   pub log : l′ ≡ logged l 0 (o .writes)
-
--- What the driver's cancel hands back.
-abbrev pub dropped : Driver → Cancelling → Dropped
-dropped d o = record { next = withTransfer d (o .next) (entriesCancelled (o .answer) (d .entries)); answer = o .answer; toggle = o .toggle; failed = failedCancel (o .answer) (d .entries) }
