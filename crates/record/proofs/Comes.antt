@@ -80,7 +80,7 @@ pub zeros : (n : ℕ) → Bytes (replicate n 0)
 zeros zero = tt
 zeros (suc n) = (omega arith, zeros n)
 
-zero-words : (n : ℕ) → Words (replicate n 0)
+pub zero-words : (n : ℕ) → Words (replicate n 0)
 zero-words zero = tt
 zero-words (suc n) = (omega arith, zero-words n)
 

@@ -34,7 +34,7 @@ use Rattle.record.specs.Asked.{Typed, AllTyped, Begun, armedBy, itemOf, 
 use Rattle.record.specs.Told.{Live, none, live, Watch, unarmed, nextLive, nextCount, nextWatch, stepFails, fails}
 use Rattle.record.specs.Premises.{PremisesFrom}
 use Rattle.record.specs.Record.{since, failure, recordFrom}
-use Rattle.record.specs.Fates.{begunBy, begunFrom, Fate, ended, broken, underWay, fate, fatesFrom, allOf, endedOf, brokenOf, FirstOf, FirstsOf, Made}
+use Rattle.record.specs.Fates.{begunBy, begunFrom, Fate, done, broken, underWay, fate, fatesFrom, allOf, endedOf, brokenOf, FirstOf, FirstsOf, Made}
 use Rattle.record.specs.Term3.{Premises, Recorded}
 use Rattle.record.proofs.Begins.{Checked, Room}
 use Rattle.record.proofs.Parts.{armedByAll, low-are, high-are, PartOf, Shape, sends, silent, shape}
@@ -81,7 +81,7 @@ part-before q s ss ps =
     ∙ ap (λ (v : List Element). v ++ (failed (length (s .first)) ∷ elements ss ps)) (map-append entry (entries q) (written (s .whole) ++ s .first))
     ∙ append-assoc (map entry (entries q)) (map entry (written (s .whole) ++ s .first)) (failed (length (s .first)) ∷ elements ss ps)
 
-read-whole : (g : Begun) (fs : List Fate) (r : List Element) → PartOf g → listed (g ∷ endedOf fs) ≡ g ∷ listed (endedOf fs) → Reads fs r → Reads (ended g ∷ fs) (map entry (armedBy g) ++ r)
+read-whole : (g : Begun) (fs : List Fate) (r : List Element) → PartOf g → listed (g ∷ endedOf fs) ≡ g ∷ listed (endedOf fs) → Reads fs r → Reads (done g ∷ fs) (map entry (armedBy g) ++ r)
 read-whole g fs r h e k = at (k .reading .segments) (k .reading .segments-fit) (k .reading .is) (k .transfers) (k .packets) (k .firsts)
   where
     q : Part
@@ -91,7 +91,7 @@ read-whole g fs r h e k = at (k .reading .segments) (k .reading .segments-fit) (
     ps = k .reading .last
 
     at : (ss : List Segment) → SegmentsFit ss → elements ss ps ≡ r → map item (unfailed ss ps) ≡ map itemOf (listed (endedOf fs)) → map entries (unfailed ss ps) ≡ map armedBy (listed (endedOf fs))
-        → FirstsOf ss (brokenOf fs) → Reads (ended g ∷ fs) (map entry (armedBy g) ++ r)
+        → FirstsOf ss (brokenOf fs) → Reads (done g ∷ fs) (map entry (armedBy g) ++ r)
     at [] f w t p b = record {
       reading = record {
         segments = [];
@@ -123,10 +123,10 @@ read-whole g fs r h e k = at (k .reading .segments) (k .reading .segments-fit) (
         firsts-same [] b = b
         firsts-same (x ∷ bs) b = b
 
-read-ended : (g : Begun) (fs : List Fate) (r : List Element) → Shape g → Reads fs r → Reads (ended g ∷ fs) (map entry (armedBy g) ++ r)
+read-ended : (g : Begun) (fs : List Fate) (r : List Element) → Shape g → Reads fs r → Reads (done g ∷ fs) (map entry (armedBy g) ++ r)
 read-ended g fs r (sends h e) k = read-whole g fs r h (e (endedOf fs)) k
 read-ended g fs r (silent z e) k =
-    subst (λ (v : List Entry). Reads (ended g ∷ fs) (map entry v ++ r)) (sym z)
+    subst (λ (v : List Entry). Reads (done g ∷ fs) (map entry v ++ r)) (sym z)
     (record { reading = k .reading; transfers = rw (e (endedOf fs)) (k .transfers); packets = rw (e (endedOf fs)) (k .packets); firsts = k .firsts; made = (r, ap (λ (v : List Entry). map entry v ++ r) (sym z), k .made) })
 
 read-broken : (g : Begun) (fs : List Fate) (so : List Entry) (r : List Element) → FirstPart so → FirstOf so g → Reads fs r → Reads (broken g ∷ fs) (map entry so ++ (failed (length so) ∷ r))
@@ -216,12 +216,12 @@ module _ (so rest rest′ now : List Entry) (k : ℕ) (fs : List Fate) (M : List
 
   -- It ends with a count.
   ending : (l : Live) → Match l so rest k → Known l so → (l ≡ none → rest ≡ []) → RoomOf l → rest ++ [] ≡ now ++ rest′ → rest′ ≡ []
-      → ((so′ : List Entry) → so′ ≡ [] → Reads fs (map entry so′ ++ M)) → Reads (map ended (underWay l) ++ fs) (map entry so ++ (map entry now ++ M))
+      → ((so′ : List Entry) → so′ ≡ [] → Reads fs (map entry so′ ++ M)) → Reads (map done (underWay l) ++ fs) (map entry so ++ (map entry now ++ M))
   ending none m c z r e d ih = subst (Reads fs) elements-join (ih (so ++ now) (ap₂ {C = List Entry} _++_ m (now-nil (z refl) e)))
   ending (live x buf) m c z r e d ih =
       let g : Begun = record { fields = x; buffer = buf } in
       let q : so ++ now ≡ armedBy g = sym (append-nil (so ++ now)) ∙ ap (λ (v : List Entry). (so ++ now) ++ v) (sym d) ∙ moved g (m .0) e in
-      subst (Reads (ended g ∷ fs)) (ap (λ (v : List Entry). map entry v ++ M) (sym q) ∙ elements-join)
+      subst (Reads (done g ∷ fs)) (ap (λ (v : List Entry). map entry v ++ M) (sym q) ∙ elements-join)
       (read-ended g fs M (shape x buf (record { checked = c .0; room = r; are = m .2 })) (ih [] refl))
 
   -- It fails.
@@ -357,7 +357,7 @@ reads-from (c ∷ cs) l n w f d rest so k ty i m h =
 
 -- ---- every transfer begun has one fate
 
-all-ended : (gs : List Begun) (fs : List Fate) → allOf (map ended gs ++ fs) ≡ gs ++ allOf fs
+all-ended : (gs : List Begun) (fs : List Fate) → allOf (map done gs ++ fs) ≡ gs ++ allOf fs
 all-ended [] fs = refl
 all-ended (g ∷ gs) fs = ap (λ (v : List Begun). g ∷ v) (all-ended gs fs)
 

@@ -15,7 +15,7 @@ use Rattle.record.specs.Verdict.{Verdict, mark, field, grammar, unfinish
 use Rattle.record.specs.declared.reader.CheckAnswer.the-variants.{Transfers}
 use Rattle.record.proofs.Encoding.{encode-append, elements-entries}
 use Rattle.record.proofs.Handing.{after-all, segment-bytes, handed-out, drop-record}
-use Rattle.record.proofs.Verdicts.{deserved}
+use Rattle.record.proofs.Verdicts.{version-of, deserved}
 use Rattle.record.proofs.Both.{absurd-eq}
 
 -- ---- packets
@@ -90,6 +90,7 @@ accepted s n b e = go (deserved s b)
         let p = ap (λ (l : List ℕ). drop 5 l) (u .is) ∙ drop-record (u .two) (u .ms) ∙ ap encodeElements (sym (r .is)) in
         record {
           record-is = u;
+          version = version-of s (u .two) (u .ms) (u .is);
           count = let z : n ≡ length (unfailed (r .segments) (r .last)) = cc in z;
           items = handed-out (r .segments) (r .last) s 5 (r .segments-fit) (r .last-fit) p;
           held = held s (r .segments) (r .last) 5 p;

@@ -1,4 +1,5 @@
 pub mod Bits
+pub mod Tied
 pub mod Logs
 pub mod Stages
 pub mod Memory
@@ -35,8 +36,10 @@ pub mod Verdicts
 pub mod Spans
 pub mod Handing
 pub mod Holding
+pub mod OneCapture
 pub mod Keeping
 pub mod Roomy
 pub mod ReadBack
 pub mod Fifteen
+pub mod Exampled
 pub mod Term3

@@ -22,7 +22,7 @@ use Rattle.record.specs.declared.reader.CheckAnswer.the-variants.{Transf
 use Rattle.record.proofs.Counted.{answered}
 use Rattle.record.proofs.Failing.{recorded}
 use Rattle.record.proofs.Keeping.{Holds, Fine, all-fine}
-use Rattle.record.proofs.Verdicts.{accepts}
+use Rattle.record.proofs.Verdicts.{version-of, accepts}
 use Rattle.record.proofs.Handing.{drop-record, handed-out}
 use Rattle.record.proofs.Holding.{held}
 
@@ -47,6 +47,7 @@ read f cs t p =
     let b = ap (λ (l : List ℕ). drop 5 l) (same-record ms) ∙ drop-record true ms ∙ ap encodeElements (sym (r .is)) in
     record {
       recorded = g;
+      version = version-of (recordOf ms) true ms (same-record ms);
       count = accepts (recordOf ms) true ms (same-record ms) (record { reading = r; plain = λ e. absurd (true≢false e) }) ∙ ap Transfers n;
       items = handed-out (r .segments) (r .last) (recordOf ms) 5 (r .segments-fit) (r .last-fit) b;
       held = held (recordOf ms) (r .segments) (r .last) 5 b;

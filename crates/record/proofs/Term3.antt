@@ -16,7 +16,7 @@ use Rattle.record.specs.Asked.{AllTyped, Begun, armedBy, itemOf, listed}
 use Rattle.record.specs.Told.{Live, none, Watch, unarmed, nextLive, nextCount, nextWatch, fails}
 use Rattle.record.specs.Premises.{PremisesFrom}
 use Rattle.record.specs.Record.{since, failure, recordFrom}
-use Rattle.record.specs.Fates.{begunFrom, Fate, ended, broken, underWay, fate, fatesFrom, allOf, endedOf, brokenOf, FirstsOf}
+use Rattle.record.specs.Fates.{begunFrom, Fate, done, broken, underWay, fate, fatesFrom, allOf, endedOf, brokenOf, FirstsOf}
 use Rattle.record.specs.Term3.{fates, Premises, Unbroken, ComesFrom, Term3}
 use Rattle.record.proofs.PlainReading.{one-plain-reading}
 use Rattle.record.proofs.Unbroken.{entriesFrom, UnbrokenFrom}
@@ -24,6 +24,7 @@ use Rattle.record.proofs.Comes.{calls-for}
 use Rattle.record.proofs.Failing.{recorded}
 use Rattle.record.proofs.Counted.{answered, counts-small}
 use Rattle.record.proofs.Roomy.{room}
+use Rattle.record.proofs.OneCapture.{one-capture}
 use Rattle.record.proofs.ReadBack.{written as written-back, read}
 
 -- ---- where none failed
@@ -34,7 +35,7 @@ no-segments (s ∷ ss) h = absurd h
 
 all-of-ended : (fs : List Fate) → brokenOf fs ≡ [] → endedOf fs ≡ allOf fs
 all-of-ended [] e = refl
-all-of-ended (ended g ∷ fs) e = ap (λ (v : List Begun). g ∷ v) (all-of-ended fs e)
+all-of-ended (done g ∷ fs) e = ap (λ (v : List Begun). g ∷ v) (all-of-ended fs e)
 all-of-ended (broken g ∷ fs) e = absurd (let z : _≡_ {A = ℕ} 0 1 = cc in omega arith)
 
 unbroken : (f : File) (cs : List Call) → AllTyped cs → Premises f cs → brokenOf (fates cs) ≡ [] → Unbroken f cs
@@ -77,7 +78,7 @@ premises (c ∷ cs) l n w f d h =
     let t = note c (o .answer) in
     (h .1, premises cs (nextLive t l) (nextCount t n) (nextWatch t w (events f (o .writes))) (performs f (o .writes)) (o .next) (h .2))
 
-ended-only : (gs : List Begun) (fs : List Fate) → brokenOf (map ended gs ++ fs) ≡ brokenOf fs
+ended-only : (gs : List Begun) (fs : List Fate) → brokenOf (map done gs ++ fs) ≡ brokenOf fs
 ended-only [] fs = refl
 ended-only (g ∷ gs) fs = ended-only gs fs
 
@@ -110,4 +111,4 @@ comes f r h =
     }
 
 pub term3 : Term3
-term3 = record { recorded = recorded; unbroken = unbroken; comes = comes; answered = answered; counts = counts-small; written = written-back; room = room; read = read }
+term3 = record { recorded = recorded; unbroken = unbroken; comes = comes; answered = answered; counts = counts-small; written = written-back; room = room; read = read; one = one-capture }

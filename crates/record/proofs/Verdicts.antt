@@ -94,10 +94,19 @@ unfolding headRight
 head-right true r = rw (le-leb 5 (length (headFor 2 ++ r)) (omega arith))
 head-right false r = rw (le-leb 5 (length (headFor 1 ++ r)) (omega arith))
 
-version-at : (two : Bool) (r : List ℕ) → eqb (versionAt (headFor (versionNumber two) ++ r)) 2 ≡ two
+version-in : (two : Bool) (r : List ℕ) → versionAt (headFor (versionNumber two) ++ r) ≡ versionNumber two
 unfolding versionAt
-version-at true r = rw (le-leb 5 (length (headFor 2 ++ r)) (omega arith))
-version-at false r = rw (le-leb 5 (length (headFor 1 ++ r)) (omega arith))
+version-in true r = rw (le-leb 5 (length (headFor 2 ++ r)) (omega arith))
+version-in false r = rw (le-leb 5 (length (headFor 1 ++ r)) (omega arith))
+
+version-at : (two : Bool) (r : List ℕ) → eqb (versionAt (headFor (versionNumber two) ++ r)) 2 ≡ two
+version-at true r = ap (λ (n : ℕ). eqb n 2) (version-in true r)
+version-at false r = ap (λ (n : ℕ). eqb n 2) (version-in false r)
+
+-- The version of a record's bytes.
+pub version-of : (s : List ℕ) (two : Bool) (ms : List Element) → s ≡ recordIn two ms → versionAt s ≡ versionNumber two
+unfolding recordIn
+version-of s two ms q = ap versionAt q ∙ version-in two (encodeElements ms)
 
 -- ---- versions
 
@@ -267,7 +276,7 @@ look-nil : look [] ≡ Bad → ⊥
 unfolding look
 look-nil q = absurd-eq (cc)
 
-encode-some : (m : Element) → 1 ≤ length (encodeElement m)
+pub encode-some : (m : Element) → 1 ≤ length (encodeElement m)
 encode-some (entry (setup a lo hi)) = omega arith
 encode-some (entry (out a e b last l)) = omega arith
 encode-some (failed m) = omega arith

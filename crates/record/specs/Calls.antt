@@ -33,8 +33,7 @@ use Rattle.transfers.specs.Calls.{stepOf, cancelOf, Beginning, beginControlOf, 
 use Rattle.transfers.specs.Pipes.{opening, closing, polling}
 use Rattle.transfers.specs.Irq.{waking}
 use Rattle.transfers.specs.Detect.{detecting}
-use Rattle.transfers.specs.Entries.{entriesBegun, entriesStepped, entriesCancelled, failedStep, failedCancel}
-use Rattle.transfers.specs.Driver.{withTransfer}
+use Rattle.transfers.specs.Driver.{begun as begunOf, stepped as steppedOf, dropped}
 
 -- What a begin asks for: a control (address, extras, packet size, SETUP, phase) or a bulk transfer (direction, address, endpoint, packet size, type, toggle).
 pub data Begin : Type 0 where
@@ -79,19 +78,19 @@ beginning t (control a x p s ph) buf m log = beginControlOf t a x p s ph buf m l
 beginning t (bulk In a e p k b) buf m log = beginBulkInOf t a e p k b buf m log
 beginning t (bulk Out a e p k b) buf m log = beginBulkOutOf t a e p k b buf m log
 
--- The driver's begin: what its transfer does, lifted.
+-- The driver's begin, by what it hands back.
 abbrev pub begins : Driver → (x : Begin) (buf m log : List ℕ) → Beginning → Effect (begin x buf m log)
-begins d x buf m log o = record { next = withTransfer d (o .next) (entriesBegun (o .answer) (d .entries) (o .armed)); answer = o .answer; writes = o .writes; memory = o .memory; armed = o .armed; failed = noCount }
+begins d x buf m log o = let r = begunOf d o in record { next = r .next; answer = r .answer; writes = o .writes; memory = o .memory; armed = r .armed; failed = noCount }
 
 -- The driver's step, the same way.
 abbrev pub steps : Driver → (b : Bool) (y : Sample) (buf m log : List ℕ) → Outcome → Effect (step b y buf m log)
-steps d b y buf m log o = record { next = withTransfer d (o .next) (entriesStepped (o .answer) (d .entries) (o .armed)); answer = o .answer; writes = o .writes; memory = o .memory; armed = o .armed; failed = failedStep (o .answer) (d .entries) }
+steps d b y buf m log o = let r = steppedOf d o in record { next = r .next; answer = r .answer; writes = o .writes; memory = o .memory; armed = r .armed; failed = r .failed }
 
--- A call, by the definitions that the driver's functions are proved equal to. Only begin and step store in packet memory and arm.
+-- A call, by the definitions that the driver's functions are proved equal to (`Ties`). Only begin and step store in packet memory and arm.
 unfoldable pub call : Driver → (c : Call) → Effect c
 call d (begin x buf m log) = begins d x buf m log (beginning (d .transfer) x buf m log)
 call d (step b y buf m log) = steps d b y buf m log (stepOf b (d .transfer) y buf m log)
-call d cancel = let o = cancelOf (d .transfer) in record { next = withTransfer d (o .next) (entriesCancelled (o .answer) (d .entries)); answer = o .answer; writes = []; memory = []; armed = nothingArmed; failed = failedCancel (o .answer) (d .entries) }
+call d cancel = let r = dropped d (cancelOf (d .transfer)) in record { next = r .next; answer = r .answer; writes = []; memory = []; armed = nothingArmed; failed = r .failed }
 call d (openPipe a x e p i log) = let o = opening d a x e p i log in record { next = o .next; answer = o .answer; writes = o .writes; memory = []; armed = nothingArmed; failed = noCount }
 call d (closePipe n) = let o = closing d n in record { next = o .next; answer = o .answer; writes = []; memory = []; armed = nothingArmed; failed = noCount }
 call d (pollPipe n y m log) = let o = polling d n y m log in record { next = o .next; answer = o .answer; writes = o .writes; memory = m; armed = nothingArmed; failed = noCount }

@@ -27,7 +27,7 @@ begunFrom d (c ∷ cs) = let o = call d c in begunBy (note c (o .answer)) ++ beg
 
 -- A transfer "ended with a count", or it failed: it "ends by 1 to 7 or 9 or is cancelled".
 pub data Fate : Type 0 where
-  ended : Begun → Fate
+  done : Begun → Fate
   broken : Begun → Fate
 
 -- The transfer under way.
@@ -38,7 +38,7 @@ underWay (live x buf) = record { fields = x; buffer = buf } ∷ []
 -- What a step's answer makes of it.
 abbrev pub stepFate : StepAnswer → List Begun → List Fate
 stepFate (Waiting again) gs = []
-stepFate (Done k) gs = map ended gs
+stepFate (Done k) gs = map done gs
 stepFate (Refused why) gs = cond (ends why) (map broken gs) []
 
 -- The same of a call.
@@ -56,19 +56,19 @@ fatesFrom l d (c ∷ cs) = let o = call d c in let k = note c (o .answer) in fat
 -- Whose they are.
 abbrev pub allOf : List Fate → List Begun
 allOf [] = []
-allOf (ended g ∷ fs) = g ∷ allOf fs
+allOf (done g ∷ fs) = g ∷ allOf fs
 allOf (broken g ∷ fs) = g ∷ allOf fs
 
 -- "the transfers that ended with a count"
 abbrev pub endedOf : List Fate → List Begun
 endedOf [] = []
-endedOf (ended g ∷ fs) = g ∷ endedOf fs
+endedOf (done g ∷ fs) = g ∷ endedOf fs
 endedOf (broken g ∷ fs) = endedOf fs
 
 -- Those that failed.
 abbrev pub brokenOf : List Fate → List Begun
 brokenOf [] = []
-brokenOf (ended g ∷ fs) = brokenOf fs
+brokenOf (done g ∷ fs) = brokenOf fs
 brokenOf (broken g ∷ fs) = g ∷ brokenOf fs
 
 -- Entries are the first of a transfer's.
@@ -85,5 +85,5 @@ FirstsOf (s ∷ ss) (g ∷ gs) = FirstOf (s .first) g × FirstsOf ss gs
 -- A record is made transfer by transfer, in order: one that ended with a count leaves the entries that it was to arm, one that failed the first of them and their count.
 abbrev pub Made : List Fate → List Element → Type 0
 Made [] r = r ≡ []
-Made (ended g ∷ fs) r = (r′ : List Element) × (r ≡ map entry (armedBy g) ++ r′) × Made fs r′
+Made (done g ∷ fs) r = (r′ : List Element) × (r ≡ map entry (armedBy g) ++ r′) × Made fs r′
 Made (broken g ∷ fs) r = (es : List Entry) × (r′ : List Element) × FirstOf es g × (r ≡ map entry es ++ (failed (length es) ∷ r′)) × Made fs r′

@@ -8,8 +8,8 @@ use lib.Dec.{eqb}
 use Rattle.record.specs.Grammar.{Part, bulk, control, none, some, entries, written, bytes, sentBytes}
 use Rattle.record.specs.Segments.{Segment, unfailed}
 use Rattle.record.specs.Bytes.{fourOf, encodeAll}
-use Rattle.record.specs.Reader.{look}
-use Rattle.record.specs.Verdict.{Whole}
+use Rattle.record.specs.Reader.{versionAt, look}
+use Rattle.record.specs.Verdict.{versionNumber, Whole}
 use Rattle.record.specs.declared.look.Look.{Look}
 use Rattle.record.specs.declared.look.Look.the-variants.{Setup, Out, Failed, Bad, End}
 use Rattle.record.specs.declared.items.Span.{Span}
@@ -143,9 +143,11 @@ abbrev pub Held : List ℕ → List Segment → List Part → ℕ → Type 0
 Held s [] ps at = HeldAll s ps at
 Held s (g ∷ gs) ps at = HeldAll s (g .whole) at × Held s gs ps (at + length (encodeAll (written (g .whole) ++ g .first)) + 5)
 
--- A record that the check accepts has a reading; the cursor hands out its items from the first on, and then the end; and their bytes stand at their places.
+-- A record that the check accepts has a version and a reading; the cursor hands out its items from the first on, and then the end; and their bytes stand at
+-- their places.
 pub record Accepted (s : List ℕ) (n : ℕ) : Type 0 where
   pub record-is : Whole s
+  pub version : versionAt s ≡ versionNumber (record-is .two)
   pub count : n ≡ length (unfailed (record-is .reads .reading .segments) (record-is .reads .reading .last))
   pub items : itemsFrom (moves (record-is .reads .reading .segments) (record-is .reads .reading .last)) s firstAt
       ≡ answersFor (record-is .reads .reading .segments) (record-is .reads .reading .last) firstAt

@@ -1,8 +1,10 @@
 -- The root of the specification, in reading order.
+pub mod Example
 pub mod Grammar
 pub mod Segments
 pub mod Wire
 pub mod Calls
+pub mod Ties
 pub mod Armed
 pub mod Asked
 pub mod Told

@@ -23,7 +23,8 @@ use Rattle.record.specs.Fates.{Fate, fatesFrom, begunFrom, allOf, endedO
 use Rattle.record.specs.Premises.{PremisesFrom}
 use Rattle.record.specs.Bytes.{recordOf}
 use Rattle.record.specs.Kept.{kept, refused, keptAll, AllLent}
-use Rattle.record.specs.Reader.{checkOf}
+use Rattle.record.specs.Reader.{versionAt, checkOf}
+use Rattle.record.specs.Verdict.{Whole}
 use Rattle.record.specs.Items.{firstAt, itemsFrom, answersFor, moves, Held}
 use Rattle.record.specs.declared.reader.CheckAnswer.the-variants.{Transfers}
 
@@ -77,15 +78,16 @@ pub record Written (f : File) (cs : List Call) (l l′ : List ℕ) (n : ℕ) : T
   pub bytes : take n l′ ≡ recordOf (wireRecord f cs)
   pub rest : drop n l′ ≡ drop n l
 
--- The reader accepts bytes s, counts the transfers that ended with a count, and its cursor hands out the items of the record's one reading, whose bytes stand at
--- their places.
+-- The reader takes bytes s for version 2, accepts them, counts the transfers that ended with a count, bulk IN left out, and its cursor hands out the items of the
+-- record's one reading, whose bytes stand at their places.
 pub record ReadBack (f : File) (cs : List Call) (s : List ℕ) : Type 0 where
   pub recorded : Recorded f cs
+  pub version : versionAt s ≡ 2
   pub count : checkOf s ≡ Transfers (length (listed (endedOf (fates cs))))
   pub items : itemsFrom (moves (recorded .reading .segments) (recorded .reading .last)) s firstAt ≡ answersFor (recorded .reading .segments) (recorded .reading .last) firstAt
   pub held : Held s (recorded .reading .segments) (recorded .reading .last) firstAt
 
--- Term 3. `answered`, `counts`, `written` and `room` have no premise; a transfer arms at most 65,536 entries, so that each count fits "a 32-bit count".
+-- Term 3, and of any bytes that they are a record in at most one way (`one`). `answered`, `counts`, `written` and `room` have no premise; a transfer arms at most 65,536 entries, so that each count fits "a 32-bit count".
 pub record Term3 : Type 0 where
   pub recorded : (f : File) (cs : List Call) → AllTyped cs → Premises f cs → Recorded f cs
   pub unbroken : (f : File) (cs : List Call) → AllTyped cs → Premises f cs → brokenOf (fates cs) ≡ [] → Unbroken f cs
@@ -95,3 +97,5 @@ pub record Term3 : Type 0 where
   pub written : (f : File) (cs : List Call) → AllTyped cs → (l : List ℕ) (ms : ℕ → List ℕ) (l′ : List ℕ) (n : ℕ) → keptAll l ms cs ≡ kept l′ n → Written f cs l l′ n
   pub room : (cs : List Call) → AllTyped cs → AllLent cs → (l : List ℕ) (ms : ℕ → List ℕ) → ((i : ℕ) → length (ms i) ≡ 4096) → length (recordOf (answeredFrom fresh cs)) ≤ length l → keptAll l ms cs ≡ refused → ⊥
   pub read : (f : File) (cs : List Call) → AllTyped cs → Premises f cs → ReadBack f cs (recordOf (wireRecord f cs))
+  pub one : (s : List ℕ) (v w : Whole s)
+      → (v .two ≡ w .two) × (v .ms ≡ w .ms) × (v .reads .reading .segments ≡ w .reads .reading .segments) × (v .reads .reading .last ≡ w .reads .reading .last)
