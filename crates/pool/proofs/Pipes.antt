@@ -1,5 +1,5 @@
 -- A pipe's number and its index lead back to each other. Assumes nothing.
-use Prim.Native.Nat.{ℕ, _+_, _-_, _<_}
+use Prim.Native.Nat.{ℕ, _+_, _-_}
 use mathlib.Core.Path.{_≡_, refl, ap, sym}
 use mathlib.Core.Bool.{Bool, true, false, cond, _&&_}
 use native.Mathlib.Omega.{arith}
@@ -9,11 +9,7 @@ use Rattle.pool.specs.declared.async_pool.PoolIndex.{PoolIndex}
 use Rattle.pool.specs.declared.async_pool.OptionIndex.the-variants.{Some as SomeIndex, None as NoIndex}
 use Rattle.pool.specs.declared.pipe.PipeNumber.{PipeNumber}
 use Rattle.pool.specs.declared.pipe.OptionPipe.the-variants.{Some, None}
-use Rattle.pool.specs.Pipe.{offset, pipes, pipeOf, indexOf}
-
--- Pipe n has index i: index 0 to 14 is pipe 1 to 15.
-abbrev pub Counted : PoolIndex → PipeNumber → Type 0
-Counted i n = (n .0 ≡ i .0 + offset) × (i .0 < pipes)
+use Rattle.pool.specs.Pipe.{offset, pipes, pipeOf, indexOf, Counted}
 
 pub pipe-of : (i : PoolIndex) (n : PipeNumber) → Counted i n → pipeOf i ≡ Some n
 unfolding pipeOf

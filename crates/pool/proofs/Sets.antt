@@ -7,7 +7,7 @@ use native.Mathlib.Omega.{arith}
 use lib.Dec.{eqb, ltb, leb·suc-zero, leb·suc-suc}
 use lib.Pow.{shr-shr}
 use borrow.Author.Tests.{ltb-true, ltb-false, lt-ltb, le-ltb, eqb-true, eqb-false, eq-eqb, ne-eqb, not-true, not-false}
-use Rattle.pool.specs.Set.{has, setOf, insert, remove, firstWhere, lowestOut, nextIn, optionOf}
+use Rattle.pool.specs.Set.{has, setOf, insert, remove, firstWhere, lowestOut, optionOf}
 use Rattle.pool.specs.declared.bitset.OptionU8.the-variants.{Some, None}
 
 -- ---- members, bit by bit
@@ -191,19 +191,6 @@ unfolding lowestOut
 lowest-out-is s r h below out =
     first-is 32 0 (λ k. not (has s k)) r
     (record { from = omega arith; within = h; before = λ i p q. ap not (below i q); here = λ q. ap not out })
-
--- The lowest member from a number on: it is a member, and no number between is one.
-pub next-in-from : (s from : ℕ) → from ≤ nextIn s from
-unfolding nextIn
-next-in-from s from = first (32 - from) from (has s) .from
-
-pub next-in-has : (s from : ℕ) → nextIn s from < 32 → has s (nextIn s from) ≡ true
-unfolding nextIn
-next-in-has s from h = first (32 - from) from (has s) .here (omega arith)
-
-pub next-in-between : (s from i : ℕ) → from ≤ i → i < nextIn s from → has s i ≡ false
-unfolding nextIn
-next-in-between s from i p q = first (32 - from) from (has s) .before i p q
 
 -- ---- the answer
 

@@ -1,6 +1,6 @@
 -- What the machine's operations on words do to the members of a set. Assumes nothing.
-use Prim.Native.Nat.{ℕ, zero, suc, _+_, _*_, _-_, _/_, _%_, _^_, _<_, _≤_, min, max}
-use mathlib.Core.Path.{_≡_, refl, ap, ap₂, sym, subst, _∙_}
+use Prim.Native.Nat.{ℕ, zero, suc, _+_, _*_, _-_, _/_, _%_, _^_, _<_, min, max}
+use mathlib.Core.Path.{_≡_, refl, ap, ap₂, sym, _∙_}
 use mathlib.Core.Bool.{Bool, true, false, cond, not, _&&_, _||_, true≢false}
 use native.Mathlib.Nat.{pow-suc, one-mul}
 use native.Mathlib.Omega.{arith}
@@ -9,8 +9,8 @@ use lib.Bits.{bitAnd, bitOr, and-shr, and-step, or-shr, or-step, or-lt, and-lt}
 use lib.Count.{trailingZeros, under}
 use lib.Dec.{eqb, eqb·zero-suc, eqb·suc-zero, eqb·suc-suc, lit<}
 use lib.Pow.{pow-lt, shl-exact}
-use Rattle.pool.specs.Set.{has, insert, remove, firstWhere, lowestOut, nextIn}
-use Rattle.pool.proofs.Sets.{digit, digit-bit, digit-zero, has-shr, has-suc, has-none, set-of-is, same-members, First, first, first-is, first-same}
+use Rattle.pool.specs.Set.{has, insert, remove, firstWhere, lowestOut}
+use Rattle.pool.proofs.Sets.{digit, digit-bit, digit-zero, has-suc, has-none, set-of-is, same-members, first-same}
 
 -- ---- members
 
@@ -136,21 +136,3 @@ pub trailing-not : (s : ℕ) → s < 2 ^ 32 → trailingZeros 32 (2 ^ 32 - 1 - s
 unfolding lowestOut
 trailing-not s h =
     trailing-is 32 (2 ^ 32 - 1 - s) ∙ first-same 32 0 (has (2 ^ 32 - 1 - s)) (λ k. not (has s k)) (λ i l. has-not 32 s i h l)
-
-has-from : (s m i : ℕ) → m ≤ i → has s i ≡ has (s / 2 ^ m) (i - m)
-has-from s m i h = let e : i ≡ m + (i - m) = omega arith in ap (has s) e ∙ sym (has-shr s m (i - m))
-
-pub trailing-next : (s m : ℕ) → m < 32 → min (m + trailingZeros 32 (s / 2 ^ m)) 32 ≡ nextIn s m
-unfolding nextIn
-trailing-next s m h =
-    let f = has (s / 2 ^ m) in
-    let t = trailingZeros 32 (s / 2 ^ m) in
-    let l = subst (First 32 0 f) (sym (trailing-is 32 (s / 2 ^ m))) (first 32 0 f) in
-    let r = min (m + t) 32 in
-    sym (first-is (32 - m) m (has s) r
-    (record {
-      from = omega arith;
-      within = omega arith;
-      before = λ i p q. has-from s m i p ∙ l .before (i - m) (omega arith) (omega arith);
-      here = λ q. (let e : r - m ≡ t = omega arith in has-from s m r (omega arith) ∙ ap f e ∙ l .here (omega arith));
-    }))

@@ -1,5 +1,6 @@
 -- A pool's index and a pipe's number are counted apart: index 0 to 14 is pipe 1 to 15.
-use Prim.Native.Nat.{ℕ, _+_, _-_}
+use mathlib.Core.Path.{_≡_}
+use Prim.Native.Nat.{ℕ, _+_, _-_, _<_}
 use mathlib.Core.Bool.{cond, _&&_}
 use lib.Dec.{leb, ltb}
 use Rattle.pool.specs.declared.async_pool.PoolIndex.{PoolIndex}
@@ -24,3 +25,7 @@ pipeOf i = cond (ltb (i .0) pipes) (Some (record { 0 = i .0 + offset })) None
 -- The index of a pipe.
 unfoldable pub indexOf : PipeNumber → OptionIndex
 indexOf n = cond (leb offset (n .0) && ltb (n .0 - offset) pipes) (SomeIndex (record { 0 = n .0 - offset })) NoIndex
+
+-- Pipe n has index i.
+abbrev pub Counted : PoolIndex → PipeNumber → Type 0
+Counted i n = (n .0 ≡ i .0 + offset) × (i .0 < pipes)

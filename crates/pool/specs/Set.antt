@@ -1,5 +1,5 @@
 -- What a set of the numbers 0 to 31 is, and what each call on one answers.
-use Prim.Native.Nat.{ℕ, zero, suc, _+_, _*_, _-_, _/_, _%_, _^_}
+use Prim.Native.Nat.{ℕ, zero, suc, _+_, _*_, _/_, _%_, _^_}
 use mathlib.Core.Bool.{Bool, cond, not, _&&_, _||_}
 use lib.Dec.{eqb, ltb}
 use Rattle.pool.specs.declared.bitset.BitSet.{BitSet}
@@ -32,10 +32,6 @@ firstWhere (suc n) k f = cond (f k) k (firstWhere n (suc k) f)
 -- The lowest clear bit of 32, 32 where all are set.
 unfoldable pub lowestOut : ℕ → ℕ
 lowestOut s = firstWhere 32 0 (λ k. not (has s k))
-
--- The lowest member from a number on, at least 32 where there is none.
-unfoldable pub nextIn : ℕ → ℕ → ℕ
-nextIn s from = firstWhere (32 - from) from (has s)
 
 -- The number n where it is one of 0 to 31.
 unfoldable pub optionOf : ℕ → OptionU8

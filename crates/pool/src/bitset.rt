@@ -1,5 +1,5 @@
 ghost use mathlib.Core.Path.{_≡_};
-ghost use Rattle.pool.specs.Set.{has, insert, remove, nextIn, optionOf, setAnyOf};
+ghost use Rattle.pool.specs.Set.{has, insert, remove, setAnyOf};
 
 // A set of the numbers 0 to 31: bit n is 1 where n is a member.
 pub struct BitSet(pub u32);
@@ -69,21 +69,6 @@ impl BitSet {
                 set: self,
                 number: OptionU8::None,
             }
-        }
-    }
-
-    // The lowest member from `from` on: one step of the Rust's iterator.
-    pub fn next_from(self, from: u8) -> OptionU8
-        ensures { λ r. ⌜ r ≡ optionOf (nextIn (self .0) from) ⌝ }
-    {
-        if 32 <= from {
-            return OptionU8::None;
-        }
-        let next = from + u32::trailing_zeros(self.0 >> from) as u8;
-        if next < 32 {
-            OptionU8::Some(next)
-        } else {
-            OptionU8::None
         }
     }
 }

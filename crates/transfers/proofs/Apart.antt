@@ -6,7 +6,7 @@ use Prim.Native.Nat.{ℕ, _+_, _-_, _/_, _%_, _≤_, _<_}
 use native.Mathlib.Omega.{arith}
 use lib.Dec.{lit<, lit≤}
 use borrow.Author.Tests.{ne-eqb}
-use Rattle.pool.specs.declared.async_pool.Pool.{Pool}
+use Rattle.pool.specs.declared.bitset.BitSet.{BitSet}
 use Rattle.pool.specs.declared.async_pool.PoolIndex.{PoolIndex}
 use Rattle.pool.specs.declared.async_pool.OptionIndex.{OptionIndex}
 use Rattle.pool.specs.declared.async_pool.OptionIndex.the-variants.{Some as SomeIndex, None as NoIndex}
@@ -23,7 +23,7 @@ use Rattle.transfers.specs.Log.{Write, wr}
 use Rattle.transfers.specs.Memory.{logFits, lentFits}
 use Rattle.transfers.specs.Registers.{addrEndpOf, epControl, epBufferOf, inte, intEpCtrl, buffStatus, epStatusStallNak, bit, weigh}
 use Rattle.transfers.specs.State.{addressGood, endpointGood, sizeGood}
-use Rattle.transfers.specs.Pipes.{armPipe, openWrites, openNumber, openIndex, openFree, openIf, openingPipe, opening, indexOpen, waitWrites, pollFull, pollIf, pollingPipe, polling}
+use Rattle.transfers.specs.Pipes.{poolOf, armPipe, openWrites, openNumber, openIndex, openFree, openIf, openingPipe, opening, indexOpen, waitWrites, pollFull, pollIf, pollingPipe, polling}
 use Rattle.transfers.specs.Irq.{clearWrites, wakingIf, waking}
 use Rattle.transfers.specs.Detect.{sameStatus, statusOf, detectingIf, detectingStatus, detecting}
 use Rattle.transfers.specs.Isolation.{heldOf}
@@ -40,12 +40,12 @@ unfolding openingPipe openFree
 of-open T d address extras endpoint size interval log none some =
     go (logFits log) (addressGood address) (endpointGood endpoint) (sizeGood size) refl
   where
-    number : size ≤ 64 → (at : PoolIndex) (p : Pool) (o : OptionPipe) → pipeOf at ≡ o
+    number : size ≤ 64 → (at : PoolIndex) (p : BitSet) (o : OptionPipe) → pipeOf at ≡ o
         → T (openNumber o at p (d .pipes) address extras endpoint size interval .writes)
     number h at p NoPipe e = none
     number h at p (SomePipe n) e = let c = pipe-counted at n e in some (n .0) (omega arith) (omega arith) h
 
-    index : size ≤ 64 → (p : Pool) (o : OptionIndex) → T (openIndex o p (d .pipes) address extras endpoint size interval .writes)
+    index : size ≤ 64 → (p : BitSet) (o : OptionIndex) → T (openIndex o p (d .pipes) address extras endpoint size interval .writes)
     index h p NoIndex = none
     index h p (SomeIndex at) = number h at p (pipeOf at) refl
 
@@ -54,7 +54,7 @@ of-open T d address extras endpoint size interval log none some =
     go true false e s f = none
     go true true false s f = none
     go true true true false f = none
-    go true true true true f = index (between 1 size 64 f .1) (allocOf (d .pipes .pool) .pool) (allocOf (d .pipes .pool) .index)
+    go true true true true f = index (between 1 size 64 f .1) (allocOf (poolOf (d .pipes .opened)) .pool .allocated) (allocOf (poolOf (d .pipes .opened)) .index)
 
 -- The same of poll.
 pub of-poll : (T : List Write → Type 0) (d : Driver) (n : PipeNumber) (s : PipeSample) (pm log : List ℕ)
@@ -62,14 +62,14 @@ pub of-poll : (T : List Write → Type 0) (d : Driver) (n : PipeNumber) (s : Pip
     → ((t : Bool) → 1 ≤ n .0 → n .0 ≤ 15 → T (armPipe (n .0) t (heldOf (d .pipes) n .size)))
     → T (polling d n s pm log .writes)
 unfolding pollingPipe pollFull
-of-poll T d n s pm log none wait full = go (lentFits pm log) (indexOpen (d .pipes .pool) n) (bit 15 (s .buffer)) refl
+of-poll T d n s pm log none wait full = go (lentFits pm log) (indexOpen (d .pipes .opened) n) (bit 15 (s .buffer)) refl
   where
-    go : (b : Bool) (o : OptionIndex) (f : Bool) → indexOpen (d .pipes .pool) n ≡ o → T (pollIf b o f (d .pipes) n s pm .writes)
+    go : (b : Bool) (o : OptionIndex) (f : Bool) → indexOpen (d .pipes .opened) n ≡ o → T (pollIf b o f (d .pipes) n s pm .writes)
     go false o f e = none
     go true NoIndex f e = none
-    go true (SomeIndex at) false e = let c = open-some (d .pipes .pool) n at e .0 in wait (omega arith) (omega arith)
+    go true (SomeIndex at) false e = let c = open-some (d .pipes .opened) n at e .0 in wait (omega arith) (omega arith)
     go true (SomeIndex at) true e =
-        let c = open-some (d .pipes .pool) n at e .0 in
+        let c = open-some (d .pipes .opened) n at e .0 in
         let i : n .0 - offset ≡ at .0 = omega arith in
         rw (← i) (full (not (heldOf (d .pipes) n .toggle)) (omega arith) (omega arith))
 

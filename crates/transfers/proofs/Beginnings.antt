@@ -11,7 +11,7 @@ use Rattle.transfers.specs.declared.refusal.Refusal.{Refusal}
 use Rattle.transfers.specs.declared.refusal.OptionRefusal.{OptionRefusal}
 use Rattle.transfers.specs.declared.refusal.OptionRefusal.the-variants.{Some, None}
 use Rattle.transfers.specs.declared.driver.Transfer.{Transfer}
-use Rattle.transfers.specs.Memory.{lentFits}
+use Rattle.transfers.specs.Memory.{lentFits, MemoryFits, LogFits}
 use Rattle.transfers.specs.State.{addressGood, endpointGood, sizeGood}
 use Rattle.transfers.specs.Calls.{isIdle, fieldsRefusal, beginRefusal}
 use Rattle.transfers.proofs.OpenPipes.{lent-sizes}
@@ -36,8 +36,8 @@ none-fields false idle a e p n q = no-refusal _ q
 
 -- What a bulk begin that isn't refused was given.
 pub record BulkGood (p : ℕ) (buf m log : List ℕ) : Type 0 where
-  pub memory : length m ≡ 4096
-  pub room : 192 ≤ length log
+  pub memory : MemoryFits m
+  pub room : LogFits log
   pub size : p ≤ 64
   pub few : length buf ≤ 0xFFFF
 

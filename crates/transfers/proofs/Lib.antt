@@ -1,4 +1,5 @@
 pub mod Logs
+pub mod Masked
 pub mod Stores
 pub mod Errors
 pub mod Counts
@@ -16,4 +17,6 @@ pub mod Isolation
 pub mod Apart
 pub mod Untouched
 pub mod ProvedTable
+pub mod Replies
+pub mod PipeReplies
 pub mod AllOpen

@@ -8,22 +8,22 @@ use borrow.Author.Tests.{leb-true, eqb-true}
 use lib.Dec.{leb}
 use lib.ListN.{length, set, getD, drop, take, replicate, length-drop}
 use lib.Seq.{sets, sets-eq, length-take-le, getD-drop}
-use Rattle.pool.specs.declared.async_pool.Pool.{Pool}
+use Rattle.pool.specs.declared.bitset.BitSet.{BitSet}
 use Rattle.pool.specs.declared.async_pool.PoolIndex.{PoolIndex}
 use Rattle.pool.specs.declared.async_pool.OptionIndex.{OptionIndex}
 use Rattle.pool.specs.declared.async_pool.OptionIndex.the-variants.{Some as SomeIndex, None as NoIndex}
 use Rattle.pool.specs.declared.pipe.PipeNumber.{PipeNumber}
 use Rattle.pool.specs.Set.{has}
-use Rattle.pool.specs.Pipe.{indexOf}
+use Rattle.pool.specs.Pipe.{indexOf, Counted}
 use Rattle.pool.proofs.Stores.{copy-more}
-use Rattle.pool.proofs.Pipes.{Counted, index-counted}
+use Rattle.pool.proofs.Pipes.{index-counted}
 use Rattle.transfers.specs.declared.refusal.Refusal.{Refusal}
 use Rattle.transfers.specs.declared.driver.Pipes.{Pipes}
 use Rattle.transfers.specs.declared.pipes.OpenAnswer.the-variants.{Refused as OpenRefused}
 use Rattle.transfers.specs.declared.pipes.PollAnswer.the-variants.{Refused as PollRefused}
 use Rattle.transfers.specs.declared.pipes.PipesOpened.{PipesOpened}
 use Rattle.transfers.specs.declared.pipes.PipesPolled.{PipesPolled}
-use Rattle.transfers.specs.Memory.{memoryFits, logFits, lentFits}
+use Rattle.transfers.specs.Memory.{memoryFits, logFits, lentFits, MemoryFits, LogFits}
 use Rattle.transfers.specs.Pipes.{refuseOpen, DidOpen, refusePoll, DidPoll, noPacket, pipeArea, packetData, handedOut, indexOpen}
 
 -- A refusal leaves the pipes and the log as they came.
@@ -79,27 +79,27 @@ copied-all pm n k h room =
     ∙ ap (λ (m : ℕ). take k (drop (pipeArea n) pm) ++ drop m (zeros 64)) len
     ∙ ap (λ (r : List ℕ). take k (drop (pipeArea n) pm) ++ r) (drop-zeros 64 k)
 
-pub lent-sizes : (pm log : List ℕ) → lentFits pm log ≡ true → (length pm ≡ 4096) × (192 ≤ length log)
+pub lent-sizes : (pm log : List ℕ) → lentFits pm log ≡ true → MemoryFits pm × LogFits log
 lent-sizes pm log = go (memoryFits pm) (logFits log) refl refl
   where
-    go : (a b : Bool) → memoryFits pm ≡ a → logFits log ≡ b → (a && b) ≡ true → (length pm ≡ 4096) × (192 ≤ length log)
+    go : (a b : Bool) → memoryFits pm ≡ a → logFits log ≡ b → (a && b) ≡ true → MemoryFits pm × LogFits log
     go true true p q e = (eqb-true (length pm) 4096 p, leb-true 192 (length log) q)
     go true false p q e = absurd (true≢false (sym e))
     go false b p q e = absurd (true≢false (sym e))
 
 -- A pipe that is open has a number from 1 to 15, and the pool has handed its index out.
-pub open-some : (p : Pool) (n : PipeNumber) (at : PoolIndex) → indexOpen p n ≡ SomeIndex at
-    → Counted at n × (has (p .allocated .0) (at .0) ≡ true)
+pub open-some : (p : BitSet) (n : PipeNumber) (at : PoolIndex) → indexOpen p n ≡ SomeIndex at
+    → Counted at n × (has (p .0) (at .0) ≡ true)
 unfolding indexOpen
 open-some p n at = go (indexOf n) refl
   where
-    held : (i : PoolIndex) (b : Bool) → has (p .allocated .0) (i .0) ≡ b → indexOf n ≡ SomeIndex i
-        → cond b (SomeIndex i) NoIndex ≡ SomeIndex at → Counted at n × (has (p .allocated .0) (at .0) ≡ true)
+    held : (i : PoolIndex) (b : Bool) → has (p .0) (i .0) ≡ b → indexOf n ≡ SomeIndex i
+        → cond b (SomeIndex i) NoIndex ≡ SomeIndex at → Counted at n × (has (p .0) (at .0) ≡ true)
     held i true h f e =
         let same : i ≡ at = cc in
-        (index-counted at n (f ∙ ap (λ j. SomeIndex j) same), ap (λ (j : PoolIndex). has (p .allocated .0) (j .0)) (sym same) ∙ h)
+        (index-counted at n (f ∙ ap (λ j. SomeIndex j) same), ap (λ (j : PoolIndex). has (p .0) (j .0)) (sym same) ∙ h)
     held i false h f e = absurd (let z : _≡_ {A = ℕ} 0 1 = cc in omega arith)
 
-    go : (o : OptionIndex) → indexOf n ≡ o → handedOut p o ≡ SomeIndex at → Counted at n × (has (p .allocated .0) (at .0) ≡ true)
-    go (SomeIndex i) f e = held i (has (p .allocated .0) (i .0)) refl f e
+    go : (o : OptionIndex) → indexOf n ≡ o → handedOut p o ≡ SomeIndex at → Counted at n × (has (p .0) (at .0) ≡ true)
+    go (SomeIndex i) f e = held i (has (p .0) (i .0)) refl f e
     go NoIndex f e = absurd (let z : _≡_ {A = ℕ} 0 1 = cc in omega arith)

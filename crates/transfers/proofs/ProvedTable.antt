@@ -9,7 +9,7 @@ use Rattle.cutting.specs.Cut.{lengths, numbered, inCut}
 use Rattle.cutting.specs.Table.{Row, inRow, Cuts}
 use Rattle.cutting.proofs.Table.{rows, cut-rows}
 use Rattle.pool.specs.Set.{has, setOf, insert, remove, firstWhere, lowestOut}
-use Rattle.pool.specs.Pool.{newPool, allocOf, freeOf}
+use Rattle.pool.specs.Pool.{allocOf, freeOf}
 use Rattle.pool.specs.Pipe.{pipeOf, indexOf}
 use Rattle.transfers.specs.declared.host_controller.TransferExtras.{TransferExtras}
 use Rattle.transfers.specs.declared.driver.Driver.{Driver}
@@ -41,7 +41,7 @@ table-row : (t : TransferType) (n : ℕ) (rs : List Row) → rows (lengths t 64 
 table-row t n rs e b l k = cut-rows t 64 b l (lit< tt) ∙ ap (λ (m : ℕ). rows (lengths t 64 m)) k ∙ e
 
 pub proved-table : ProvedTable
-unfolding lengths rows inCut numbered classify freeTimes openFree closingPipe indexOpen newPool allocOf freeOf pipeOf indexOf has setOf insert remove firstWhere lowestOut
+unfolding lengths rows inCut numbered classify freeTimes openFree closingPipe indexOpen allocOf freeOf pipeOf indexOf has setOf insert remove firstWhere lowestOut
 proved-table = record {
   none = λ t. table-row t 0 _ (either t (λ (u : TransferType). rows (lengths u 64 0) ≡ _) refl refl);
   short = λ t. table-row t 63 _ (either t (λ (u : TransferType). rows (lengths u 64 63) ≡ _) refl refl);

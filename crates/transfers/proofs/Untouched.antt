@@ -5,7 +5,7 @@ use mathlib.Core.List.{List, []}
 use Prim.Native.Nat.{ℕ}
 use native.Mathlib.Omega.{arith}
 use lib.ListN.{length, length-set}
-use Rattle.pool.specs.declared.async_pool.Pool.{Pool}
+use Rattle.pool.specs.declared.bitset.BitSet.{BitSet}
 use Rattle.pool.specs.declared.async_pool.PoolIndex.{PoolIndex}
 use Rattle.pool.specs.declared.async_pool.OptionIndex.{OptionIndex}
 use Rattle.pool.specs.declared.async_pool.OptionIndex.the-variants.{Some as SomeIndex, None as NoIndex}
@@ -27,7 +27,7 @@ use Rattle.transfers.specs.declared.pipes.PipeSample.{PipeSample}
 use Rattle.transfers.specs.Memory.{logFits, lentFits}
 use Rattle.transfers.specs.Registers.{bit}
 use Rattle.transfers.specs.State.{addressGood, endpointGood, sizeGood}
-use Rattle.transfers.specs.Pipes.{withPipes, Opening, noPacket, openNumber, openIndex, openFree, openIf, openingPipe, opening, indexOpen, closeIndex, closingPipe, closing, pollFull, pollIf, pollingPipe, polling}
+use Rattle.transfers.specs.Pipes.{poolOf, withPipes, Opening, noPacket, openNumber, openIndex, openFree, openIf, openingPipe, opening, indexOpen, closeIndex, closingPipe, closing, pollFull, pollIf, pollingPipe, polling}
 use Rattle.transfers.specs.Detect.{statusOf, sameStatus, Detecting, detectingIf, detectingStatus, withLast, detecting}
 use Rattle.transfers.specs.Isolation.{isOpen, Whole}
 
@@ -51,19 +51,19 @@ detect-transfer d sie log = refl
 
 -- ---- which pipes are open
 
-pub poll-pool : (d : Driver) (n : PipeNumber) (s : PipeSample) (pm log : List ℕ) → polling d n s pm log .next .pipes .pool ≡ d .pipes .pool
+pub poll-opened : (d : Driver) (n : PipeNumber) (s : PipeSample) (pm log : List ℕ) → polling d n s pm log .next .pipes .opened ≡ d .pipes .opened
 unfolding pollingPipe pollFull
-poll-pool d n s pm log = go (lentFits pm log) (indexOpen (d .pipes .pool) n) (bit 15 (s .buffer))
+poll-opened d n s pm log = go (lentFits pm log) (indexOpen (d .pipes .opened) n) (bit 15 (s .buffer))
   where
-    go : (b : Bool) (o : OptionIndex) (f : Bool) → pollIf b o f (d .pipes) n s pm .next .pool ≡ d .pipes .pool
+    go : (b : Bool) (o : OptionIndex) (f : Bool) → pollIf b o f (d .pipes) n s pm .next .opened ≡ d .pipes .opened
     go false o f = refl
     go true NoIndex f = refl
     go true (SomeIndex at) false = refl
     go true (SomeIndex at) true = refl
 
 pub poll-open : (d : Driver) (n : PipeNumber) (s : PipeSample) (pm log : List ℕ) (k : PipeNumber)
-    → isOpen (polling d n s pm log .next .pipes .pool) k ≡ isOpen (d .pipes .pool) k
-poll-open d n s pm log k = ap (λ (p : Pool). isOpen p k) (poll-pool d n s pm log)
+    → isOpen (polling d n s pm log .next .pipes .opened) k ≡ isOpen (d .pipes .opened) k
+poll-open d n s pm log k = ap (λ (p : BitSet). isOpen p k) (poll-opened d n s pm log)
 
 pub detect-pipes : (d : Driver) (sie : ℕ) (log : List ℕ) → detecting d sie log .next .pipes ≡ d .pipes
 detect-pipes d sie log = refl
@@ -76,7 +76,7 @@ unfolding openingPipe openFree
 open-whole d address extras endpoint size interval log w =
     go (logFits log) (addressGood address) (endpointGood endpoint) (sizeGood size)
   where
-    index : (o : OptionIndex) (p : Pool) → length (openIndex o p (d .pipes) address extras endpoint size interval .next .each) ≡ 15
+    index : (o : OptionIndex) (p : BitSet) → length (openIndex o p (d .pipes) address extras endpoint size interval .next .each) ≡ 15
     index NoIndex p = w
     index (SomeIndex at) p = number (pipeOf at)
       where
@@ -89,11 +89,11 @@ open-whole d address extras endpoint size interval log w =
     go true false e s = w
     go true true false s = w
     go true true true false = w
-    go true true true true = index (allocOf (d .pipes .pool) .index) (allocOf (d .pipes .pool) .pool)
+    go true true true true = index (allocOf (poolOf (d .pipes .opened)) .index) (allocOf (poolOf (d .pipes .opened)) .pool .allocated)
 
 pub close-whole : (d : Driver) (n : PipeNumber) → Whole d → Whole (closing d n .next)
 unfolding closingPipe
-close-whole d n w = go (indexOpen (d .pipes .pool) n)
+close-whole d n w = go (indexOpen (d .pipes .opened) n)
   where
     go : (o : OptionIndex) → length (closeIndex o (d .pipes) .next .each) ≡ 15
     go NoIndex = w
@@ -101,7 +101,7 @@ close-whole d n w = go (indexOpen (d .pipes .pool) n)
 
 pub poll-whole : (d : Driver) (n : PipeNumber) (s : PipeSample) (pm log : List ℕ) → Whole d → Whole (polling d n s pm log .next)
 unfolding pollingPipe pollFull
-poll-whole d n s pm log w = go (lentFits pm log) (indexOpen (d .pipes .pool) n) (bit 15 (s .buffer))
+poll-whole d n s pm log w = go (lentFits pm log) (indexOpen (d .pipes .opened) n) (bit 15 (s .buffer))
   where
     go : (b : Bool) (o : OptionIndex) (f : Bool) → length (pollIf b o f (d .pipes) n s pm .next .each) ≡ 15
     go false o f = w
@@ -121,11 +121,11 @@ open-refused d address extras endpoint size interval log why =
     Kept : Opening Pipes → Type 0
     Kept o = o .answer ≡ OpenRefused why → (withPipes d (o .next) ≡ d) × (o .writes ≡ [])
 
-    number : (at : PoolIndex) (p : Pool) (o : OptionPipe) → Kept (openNumber o at p (d .pipes) address extras endpoint size interval)
+    number : (at : PoolIndex) (p : BitSet) (o : OptionPipe) → Kept (openNumber o at p (d .pipes) address extras endpoint size interval)
     number at p NoPipe e = (refl, refl)
     number at p (SomePipe n) e = absurd (let z : _≡_ {A = ℕ} 0 1 = cc in omega arith)
 
-    index : (p : Pool) (o : OptionIndex) → Kept (openIndex o p (d .pipes) address extras endpoint size interval)
+    index : (p : BitSet) (o : OptionIndex) → Kept (openIndex o p (d .pipes) address extras endpoint size interval)
     index p NoIndex e = (refl, refl)
     index p (SomeIndex at) e = number at p (pipeOf at) e
 
@@ -134,11 +134,11 @@ open-refused d address extras endpoint size interval log why =
     go true false e s f = (refl, refl)
     go true true false s f = (refl, refl)
     go true true true false f = (refl, refl)
-    go true true true true f = index (allocOf (d .pipes .pool) .pool) (allocOf (d .pipes .pool) .index) f
+    go true true true true f = index (allocOf (poolOf (d .pipes .opened)) .pool .allocated) (allocOf (poolOf (d .pipes .opened)) .index) f
 
 pub close-refused : (d : Driver) (n : PipeNumber) (why : Refusal) → closing d n .answer ≡ CloseRefused why → closing d n .next ≡ d
 unfolding closingPipe
-close-refused d n why = go (indexOpen (d .pipes .pool) n)
+close-refused d n why = go (indexOpen (d .pipes .opened) n)
   where
     go : (o : OptionIndex) → closeIndex o (d .pipes) .answer ≡ CloseRefused why → withPipes d (closeIndex o (d .pipes) .next) ≡ d
     go NoIndex e = refl
@@ -148,7 +148,7 @@ pub poll-refused : (d : Driver) (n : PipeNumber) (s : PipeSample) (pm log : List
     → polling d n s pm log .answer ≡ PollRefused why
     → (polling d n s pm log .next ≡ d) × (polling d n s pm log .packet ≡ noPacket) × (polling d n s pm log .writes ≡ [])
 unfolding pollingPipe pollFull
-poll-refused d n s pm log why = go (lentFits pm log) (indexOpen (d .pipes .pool) n) (bit 15 (s .buffer))
+poll-refused d n s pm log why = go (lentFits pm log) (indexOpen (d .pipes .opened) n) (bit 15 (s .buffer))
   where
     go : (b : Bool) (o : OptionIndex) (f : Bool) → pollIf b o f (d .pipes) n s pm .answer ≡ PollRefused why
         → (withPipes d (pollIf b o f (d .pipes) n s pm .next) ≡ d) × (pollIf b o f (d .pipes) n s pm .packet ≡ noPacket)

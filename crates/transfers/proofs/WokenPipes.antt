@@ -1,14 +1,13 @@
 -- Laws of the set of pipes to wake. Assumes nothing.
 use mathlib.Core.Path.{_≡_, refl, ap, _∙_}
 use mathlib.Core.Bool.{Bool, true, false, cond}
-use Prim.Native.Nat.{ℕ, zero, suc, _+_, _*_, _/_, _%_, _^_, _<_, _≤_}
+use Prim.Native.Nat.{ℕ, zero, suc, _+_, _*_, _^_, _<_, _≤_}
 use native.Mathlib.Nat.{pow-suc}
 use native.Mathlib.Omega.{arith}
 use borrow.Author.Tests.{lt-ltb, le-ltb}
-use lib.Dec.{eqb}
 use Rattle.pool.specs.Set.{has, setOf}
 use Rattle.pool.proofs.Sets.{has-set-of}
-use Rattle.transfers.specs.Registers.{bit, weigh}
+use Rattle.transfers.specs.Registers.{weigh}
 use Rattle.transfers.specs.Irq.{irqPipes, isWoken, wokenPipes}
 
 twice : (b : Bool) (x : ℕ) → weigh b (x * 2) ≡ 2 * weigh b x
@@ -26,9 +25,6 @@ set-of-last zero f = go (f 0)
 set-of-last (suc k) f =
     let e = ap (weigh (f (suc k))) (pow-suc 2 k) ∙ twice (f (suc k)) (2 ^ k) in
     omega (arith, set-of-last k (λ n. f (suc n)), e)
-
-pub low-bit : (w : ℕ) → eqb (w % 2) 1 ≡ bit 0 w
-low-bit w = let e : w % 2 ≡ w / 1 % 2 = omega arith in ap (λ (x : ℕ). eqb x 1) e
 
 -- "`on_irq` looks at pipes 0 to 14": bit i of the set says whether pipe i is to be woken, and no other bit is set.
 pub woken : (ints status i : ℕ) → i < irqPipes → has (wokenPipes ints status) i ≡ isWoken ints status i

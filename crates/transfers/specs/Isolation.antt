@@ -4,7 +4,7 @@ use mathlib.Core.Bool.{Bool, true, false}
 use mathlib.Core.List.{List}
 use Prim.Native.Nat.{ℕ, _-_}
 use lib.ListN.{length, getD, take, drop}
-use Rattle.pool.specs.declared.async_pool.Pool.{Pool}
+use Rattle.pool.specs.declared.bitset.BitSet.{BitSet}
 use Rattle.pool.specs.declared.async_pool.OptionIndex.{OptionIndex}
 use Rattle.pool.specs.declared.async_pool.OptionIndex.the-variants.{Some as SomeIndex, None as NoIndex}
 use Rattle.pool.specs.declared.pipe.PipeNumber.{PipeNumber}
@@ -13,6 +13,7 @@ use Rattle.transfers.specs.declared.driver.Driver.{Driver}
 use Rattle.transfers.specs.declared.driver.Pipes.{Pipes}
 use Rattle.transfers.specs.declared.driver.Pipe.{Pipe}
 use Rattle.transfers.specs.declared.pipes.PipeSample.{PipeSample}
+use Rattle.transfers.specs.Memory.{MemoryFits}
 use Rattle.transfers.specs.Pipes.{noPipe, pipeArea, indexOpen, Polling, polling}
 
 -- There is an index.
@@ -21,8 +22,8 @@ isSome (SomeIndex at) = true
 isSome NoIndex = false
 
 -- Pipe n is open.
-abbrev pub isOpen : Pool → PipeNumber → Bool
-isOpen p n = isSome (indexOpen p n)
+abbrev pub isOpen : BitSet → PipeNumber → Bool
+isOpen s n = isSome (indexOpen s n)
 
 -- What is held of pipe n.
 abbrev pub heldOf : Pipes → PipeNumber → Pipe
@@ -34,7 +35,7 @@ Whole d = length (d .pipes .each) ≡ pipes
 
 -- The states agree on pipe n.
 pub record SamePipe (n : PipeNumber) (ps ps′ : Pipes) : Type 0 where
-  pub opened : isOpen (ps .pool) n ≡ isOpen (ps′ .pool) n
+  pub opened : isOpen (ps .opened) n ≡ isOpen (ps′ .opened) n
   pub size : heldOf ps n .size ≡ heldOf ps′ n .size
   pub toggle : heldOf ps n .toggle ≡ heldOf ps′ n .toggle
 
@@ -42,7 +43,7 @@ pub record SamePipe (n : PipeNumber) (ps ps′ : Pipes) : Type 0 where
 pub record SameLent (n : PipeNumber) (pm pm′ log log′ : List ℕ) : Type 0 where
   pub bytes : length pm ≡ length pm′
   pub words : length log ≡ length log′
-  pub area : length pm ≡ 4096 → take 64 (drop (pipeArea (n .0)) pm) ≡ take 64 (drop (pipeArea (n .0)) pm′)
+  pub area : MemoryFits pm → take 64 (drop (pipeArea (n .0)) pm) ≡ take 64 (drop (pipeArea (n .0)) pm′)
 
 -- The polls are alike: answer, packet and writes, and then the states agree on pipe n again.
 pub record SamePoll (n : PipeNumber) (e e′ : Polling Driver) : Type 0 where

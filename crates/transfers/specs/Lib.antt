@@ -1,5 +1,6 @@
 -- What a reader has to believe, in reading order.
 pub mod Refusal
+pub mod Reply
 pub mod Registers
 pub mod Masks
 pub mod Log
@@ -18,9 +19,11 @@ pub mod Irq
 pub mod Detect
 pub mod Entries
 pub mod Driver
+pub mod Rows
 pub mod Isolation
 pub mod Apart
 pub mod ProvedTable
+pub mod AllOpen
 -- What the crate's own functions are held to.
 pub mod Arms
 pub mod Starts

@@ -1,7 +1,8 @@
 -- The log of a call: "three words a write from word 0 on: register number, mask of the bits touched, value".
 use mathlib.Core.Path.{_≡_}
 use mathlib.Core.List.{List, [], _∷_}
-use Prim.Native.Nat.{ℕ, _+_, _*_}
+use Prim.Native.Nat.{ℕ, _+_, _*_, _-_}
+use lib.Bits.{bitAnd, bitOr}
 use lib.ListN.{length}
 use lib.Seq.{sets}
 
@@ -12,6 +13,10 @@ pub data Write : Type 0 where
 -- "A delay of 12 cycles is a write of its own kind: 0, 0, 12."
 abbrev pub delay : Write
 delay = wr 0 0 12
+
+-- "mask of the bits touched .., value (zero outside the mask)": what a write with mask m and value v leaves of a register's word.
+abbrev pub masked : ℕ → ℕ → ℕ → ℕ
+masked old m v = bitOr (bitAnd old (0xFFFF_FFFF - m)) v
 
 -- "three a write from word 0 on: register number, mask, value"
 abbrev pub words : List Write → List ℕ

@@ -2,7 +2,7 @@
 use mathlib.Core.Path.{_≡_}
 use mathlib.Core.Bool.{Bool, true, false, _&&_}
 use mathlib.Core.List.{List}
-use Prim.Native.Nat.{ℕ}
+use Prim.Native.Nat.{ℕ, _≤_}
 use lib.ListN.{length, take, drop}
 use lib.Dec.{eqb, leb}
 
@@ -17,6 +17,14 @@ logFits log = leb 192 (length log)
 -- Both.
 abbrev pub lentFits : List ℕ → List ℕ → Bool
 lentFits pm log = memoryFits pm && logFits log
+
+-- What passes 15, as the crate's own functions ask for it: packet memory is whole.
+abbrev pub MemoryFits : List ℕ → Type 0
+MemoryFits pm = length pm ≡ 4096
+
+-- The log has room for 64 writes.
+abbrev pub LogFits : List ℕ → Type 0
+LogFits log = 192 ≤ length log
 
 -- "Slots alternate from 0 (at 0x180, then 0x1C0)."
 abbrev pub slotAddress : Bool → ℕ

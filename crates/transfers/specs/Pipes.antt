@@ -4,6 +4,7 @@ use mathlib.Core.Bool.{Bool, true, false, not, cond}
 use mathlib.Core.List.{List, [], _∷_, _++_}
 use Prim.Native.Nat.{ℕ, _+_, _*_, _-_, _^_, min}
 use lib.ListN.{set, getD, take, drop, replicate}
+use Rattle.pool.specs.declared.bitset.BitSet.{BitSet}
 use Rattle.pool.specs.declared.async_pool.Pool.{Pool}
 use Rattle.pool.specs.declared.async_pool.PoolIndex.{PoolIndex}
 use Rattle.pool.specs.declared.async_pool.OptionIndex.{OptionIndex}
@@ -12,8 +13,8 @@ use Rattle.pool.specs.declared.pipe.PipeNumber.{PipeNumber}
 use Rattle.pool.specs.declared.pipe.OptionPipe.{OptionPipe}
 use Rattle.pool.specs.declared.pipe.OptionPipe.the-variants.{Some as SomePipe, None as NoPipe}
 use Rattle.pool.specs.Set.{has}
-use Rattle.pool.specs.Pool.{newPool, allocOf, freeOf}
-use Rattle.pool.specs.Pipe.{pipeOf, indexOf, pipes}
+use Rattle.pool.specs.Pool.{allocOf, freeOf}
+use Rattle.pool.specs.Pipe.{pipeOf, indexOf}
 use Rattle.transfers.specs.declared.host_controller.TransferExtras.{TransferExtras}
 use Rattle.transfers.specs.declared.host_controller.UsbError.the-variants.{TooManyDevices, NoSuchEndpoint}
 use Rattle.transfers.specs.declared.host_controller.InterruptPacket.{InterruptPacket}
@@ -42,7 +43,11 @@ noPipe = record { size = 0; toggle = false }
 
 -- "no pipe open"
 abbrev pub freshPipes : Pipes
-freshPipes = record { pool = newPool pipes; each = replicate pipes noPipe }
+freshPipes = record { opened = record { 0 = 0 }; each = replicate 15 noPipe }
+
+-- "10 all 15 open": the pool of the pipes, of which the driver holds the set of those open, and the call brings the 15.
+abbrev pub poolOf : BitSet → Pool
+poolOf s = record { total = 15; allocated = s }
 
 -- Where the buffer of pipe n lies in packet memory.
 abbrev pub pipeArea : ℕ → ℕ
@@ -76,23 +81,24 @@ abbrev pub refuseOpen : Pipes → Refusal → Opening Pipes
 refuseOpen ps why = record { next = ps; answer = OpenRefused why; writes = [] }
 
 -- The pipe that is opened: "10 all 15 open".
-abbrev pub openNumber : OptionPipe → PoolIndex → Pool → Pipes → ℕ → TransferExtras → ℕ → ℕ → ℕ → Opening Pipes
-openNumber NoPipe at pool ps address extras endpoint size interval = refuseOpen ps (Usb TooManyDevices)
-openNumber (SomePipe n) at pool ps address extras endpoint size interval = record {
-  next = record { pool = pool; each = set (ps .each) (at .0) (record { size = size; toggle = false }) };
+abbrev pub openNumber : OptionPipe → PoolIndex → BitSet → Pipes → ℕ → TransferExtras → ℕ → ℕ → ℕ → Opening Pipes
+openNumber NoPipe at left ps address extras endpoint size interval = refuseOpen ps (Usb TooManyDevices)
+openNumber (SomePipe n) at left ps address extras endpoint size interval = record {
+  next = record { opened = left; each = set (ps .each) (at .0) (record { size = size; toggle = false }) };
   answer = OpenPipe n;
   writes = openWrites (n .0) address extras endpoint size interval;
 }
 
 -- "10 all 15 open"
-abbrev pub openIndex : OptionIndex → Pool → Pipes → ℕ → TransferExtras → ℕ → ℕ → ℕ → Opening Pipes
-openIndex NoIndex pool ps address extras endpoint size interval = refuseOpen ps (Usb TooManyDevices)
-openIndex (SomeIndex at) pool ps address extras endpoint size interval = openNumber (pipeOf at) at pool ps address extras endpoint size interval
+abbrev pub openIndex : OptionIndex → BitSet → Pipes → ℕ → TransferExtras → ℕ → ℕ → ℕ → Opening Pipes
+openIndex NoIndex left ps address extras endpoint size interval = refuseOpen ps (Usb TooManyDevices)
+openIndex (SomeIndex at) left ps address extras endpoint size interval = openNumber (pipeOf at) at left ps address extras endpoint size interval
 
 -- The lowest free index is opened.
 unfoldable pub openFree : Pipes → ℕ → TransferExtras → ℕ → ℕ → ℕ → Opening Pipes
 openFree ps address extras endpoint size interval =
-    openIndex (allocOf (ps .pool) .index) (allocOf (ps .pool) .pool) ps address extras endpoint size interval
+    let a = allocOf (poolOf (ps .opened)) in
+    openIndex (a .index) (a .pool .allocated) ps address extras endpoint size interval
 
 -- The tests, in their order: the log, the address, the endpoint, the packet size.
 abbrev pub openIf : Bool → Bool → Bool → Bool → Pipes → ℕ → TransferExtras → ℕ → ℕ → ℕ → Opening Pipes
@@ -112,12 +118,12 @@ abbrev pub withPipes : Driver → Pipes → Driver
 withPipes d ps = record { transfer = d .transfer; entries = d .entries; pipes = ps; last = d .last }
 
 -- The same for the driver.
-abbrev pub opened : Driver → Opening Pipes → Opening Driver
-opened d e = record { next = withPipes d (e .next); answer = e .answer; writes = e .writes }
+abbrev pub withOpening : Driver → Opening Pipes → Opening Driver
+withOpening d e = record { next = withPipes d (e .next); answer = e .answer; writes = e .writes }
 
 -- An open, on any driver.
 abbrev pub opening : Driver → ℕ → TransferExtras → ℕ → ℕ → ℕ → List ℕ → Opening Driver
-opening d address extras endpoint size interval log = opened d (openingPipe (d .pipes) address extras endpoint size interval log)
+opening d address extras endpoint size interval log = withOpening d (openingPipe (d .pipes) address extras endpoint size interval log)
 
 -- What open hands back, from what it does.
 pub record DidOpen {S : Type 0} (e : Opening S) (s : S) (a : OpenAnswer) (k : ℕ) (l l′ : List ℕ) : Type 0 where
@@ -127,25 +133,25 @@ pub record DidOpen {S : Type 0} (e : Opening S) (s : S) (a : OpenAnswer) (k : �
 
 -- ---- which pipe is open
 
--- The index, where the pool has handed it out.
-abbrev pub handedOut : Pool → OptionIndex → OptionIndex
-handedOut p NoIndex = NoIndex
-handedOut p (SomeIndex at) = cond (has (p .allocated .0) (at .0)) (SomeIndex at) NoIndex
+-- The index, where it is in the set of those handed out.
+abbrev pub handedOut : BitSet → OptionIndex → OptionIndex
+handedOut s NoIndex = NoIndex
+handedOut s (SomeIndex at) = cond (has (s .0) (at .0)) (SomeIndex at) NoIndex
 
 -- The index of a pipe that is open: "17 pipe not open, or its number not 1 to 15".
-unfoldable pub indexOpen : Pool → PipeNumber → OptionIndex
-indexOpen p n = handedOut p (indexOf n)
+unfoldable pub indexOpen : BitSet → PipeNumber → OptionIndex
+indexOpen s n = handedOut s (indexOf n)
 
 -- ---- close
 
 -- The pool has the index back; size and toggle stay.
 abbrev pub closeIndex : OptionIndex → Pipes → PipesClosed
 closeIndex NoIndex ps = record { next = ps; answer = CloseRefused PipeNotOpen }
-closeIndex (SomeIndex at) ps = record { next = record { pool = freeOf (ps .pool) at .pool; each = ps .each }; answer = Closed }
+closeIndex (SomeIndex at) ps = record { next = record { opened = freeOf (poolOf (ps .opened)) at .pool .allocated; each = ps .each }; answer = Closed }
 
 -- A close, on any pipes.
 unfoldable pub closingPipe : Pipes → PipeNumber → PipesClosed
-closingPipe ps n = closeIndex (indexOpen (ps .pool) n) ps
+closingPipe ps n = closeIndex (indexOpen (ps .opened) n) ps
 
 -- A close, on any driver.
 abbrev pub closing : Driver → PipeNumber → CloseResult
@@ -195,7 +201,7 @@ heldAt ps at = getD (ps .each) (at .0) noPipe
 -- A packet of the pipe at an index: its toggle is flipped, and it is armed again.
 unfoldable pub pollFull : PoolIndex → Pipes → PipeNumber → PipeSample → List ℕ → Polling Pipes
 pollFull at ps n s pm = record {
-  next = record { pool = ps .pool; each = set (ps .each) (at .0) (record { size = heldAt ps at .size; toggle = not (heldAt ps at .toggle) }) };
+  next = record { opened = ps .opened; each = set (ps .each) (at .0) (record { size = heldAt ps at .size; toggle = not (heldAt ps at .toggle) }) };
   answer = Packet;
   packet = packetOf (n .0) s pm;
   writes = armPipe (n .0) (not (heldAt ps at .toggle)) (heldAt ps at .size);
@@ -210,15 +216,15 @@ pollIf true (SomeIndex at) true ps n s pm = pollFull at ps n s pm
 
 -- A poll, on any pipes.
 unfoldable pub pollingPipe : Pipes → PipeNumber → PipeSample → List ℕ → List ℕ → Polling Pipes
-pollingPipe ps n s pm log = pollIf (lentFits pm log) (indexOpen (ps .pool) n) (bit 15 (s .buffer)) ps n s pm
+pollingPipe ps n s pm log = pollIf (lentFits pm log) (indexOpen (ps .opened) n) (bit 15 (s .buffer)) ps n s pm
 
 -- The same for the driver.
-abbrev pub polled : Driver → Polling Pipes → Polling Driver
-polled d e = record { next = withPipes d (e .next); answer = e .answer; packet = e .packet; writes = e .writes }
+abbrev pub withPolling : Driver → Polling Pipes → Polling Driver
+withPolling d e = record { next = withPipes d (e .next); answer = e .answer; packet = e .packet; writes = e .writes }
 
 -- A poll, on any driver.
 abbrev pub polling : Driver → PipeNumber → PipeSample → List ℕ → List ℕ → Polling Driver
-polling d n s pm log = polled d (pollingPipe (d .pipes) n s pm log)
+polling d n s pm log = withPolling d (pollingPipe (d .pipes) n s pm log)
 
 -- What poll hands back, from what it does.
 pub record DidPoll {S : Type 0} (e : Polling S) (s : S) (a : PollAnswer) (p : InterruptPacket) (k : ℕ) (l l′ : List ℕ) : Type 0 where

@@ -13,19 +13,17 @@ use Rattle.transfers.specs.declared.sample.Poll.{Poll}
 use Rattle.transfers.specs.declared.sample.Poll.the-variants.{Pending, Ready}
 use Rattle.transfers.specs.declared.sample.Found.the-variants.{Complete, Failed, Neither}
 use Rattle.transfers.specs.declared.driver.Driver.{Driver}
-use Rattle.transfers.specs.declared.pipes.OpenAnswer.{OpenAnswer}
-use Rattle.transfers.specs.declared.pipes.OpenAnswer.the-variants.{Pipe as OpenPipe, Refused as OpenRefused}
 use Rattle.transfers.specs.Refusal.{numberOf}
+use Rattle.transfers.specs.Reply.{result, number, openReply}
 use Rattle.transfers.specs.Memory.{logFits}
 use Rattle.transfers.specs.Sample.{classify}
 use Rattle.transfers.specs.State.{addressGood, endpointGood, sizeGood}
 use Rattle.transfers.specs.Pipes.{freshPipes, withPipes, opening, closing}
 
--- What the table has of a sample, and of an open: a number is that of the refusal.
+-- What the table has of a sample: a number is that of the refusal.
 pub data Row : Type 0 where
   complete : Row
   waiting : Row
-  pipe : ℕ → Row
   refused : ℕ → Row
 
 -- A sample, as every step finds it.
@@ -34,11 +32,6 @@ statusRow Pending = waiting
 statusRow (Ready Complete) = complete
 statusRow (Ready (Failed e)) = refused (numberOf (Usb e))
 statusRow (Ready Neither) = waiting
-
--- An open's answer.
-abbrev pub openRow : OpenAnswer → Row
-openRow (OpenPipe n) = pipe (n .0)
-openRow (OpenRefused why) = refused (numberOf why)
 
 -- The pool's lines hold whatever the fields are that open takes.
 module _ (address : ℕ) (extras : TransferExtras) (endpoint size interval : ℕ) (log : List ℕ) where
@@ -83,8 +76,8 @@ pub record ProvedTable : Type 0 where
   -- "Sixteenth open: 10."
   pub sixteenth : (d : Driver) (address : ℕ) (extras : TransferExtras) (endpoint size interval : ℕ) (log : List ℕ)
       → OpenFits address extras endpoint size interval log
-      → openRow (opening (allOpen d address extras endpoint size interval log) address extras endpoint size interval log .answer) ≡ refused 10
+      → openReply (opening (allOpen d address extras endpoint size interval log) address extras endpoint size interval log .answer) ≡ number 10
   -- "Close 4, open: 4."
   pub again : (d : Driver) (address : ℕ) (extras : TransferExtras) (endpoint size interval : ℕ) (log : List ℕ)
       → OpenFits address extras endpoint size interval log
-      → openRow (opening (closing (allOpen d address extras endpoint size interval log) (record { 0 = 4 }) .next) address extras endpoint size interval log .answer) ≡ pipe 4
+      → openReply (opening (closing (allOpen d address extras endpoint size interval log) (record { 0 = 4 }) .next) address extras endpoint size interval log .answer) ≡ result 4

@@ -35,7 +35,7 @@ setupWords s = wr epxControl ones 0x180 ∷ wr epBuffer ones 0 ∷ wr setupLow o
 abbrev pub setupStart : ℕ → TransferExtras → List Write
 setupStart a x = wr addrEndp ones a ∷ wr sieCtrl 0x4E (2 + weigh (preamble x) 0x40) ∷ delay ∷ wr sieCtrl 1 1 ∷ []
 
--- EPX_CONTROL: ENABLE and the buffer's address; with more than one packet DOUBLE_BUFFERED and INTERRUPT_PER_BUFF; ENDPOINT_TYPE bulk.
+-- EPX_CONTROL: ENABLE and the buffer's address; from one packet's size on (n ≥ p) DOUBLE_BUFFERED and INTERRUPT_PER_BUFF; ENDPOINT_TYPE bulk.
 abbrev pub epxValue : Target → ℕ → ℕ
 epxValue t n = 0x8000_0180 + weigh (leb (t .size) n) 0x6000_0000 + weigh (not (eqb (t .endpoint) 0)) 0x0800_0000
 
@@ -53,7 +53,7 @@ armValue f a = a .length + weigh (a .pid) 0x2000 + weigh (a .last) 0x4000 + weig
 unfoldable pub armWrites : Bool → Arm → List Write
 armWrites f a = wr epBuffer (half (a .slot) 0xE3FF) (half (a .slot) (armValue f a)) ∷ delay ∷ wr epBuffer (half (a .slot) 0x400) (half (a .slot) 0x400) ∷ []
 
--- TRANS_COMPLETE and the errors are enabled; with more than two packets BUFF_STATUS too.
+-- TRANS_COMPLETE and the errors are enabled; from two packets' size on (n ≥ 2p) BUFF_STATUS too.
 abbrev pub enables : ℕ → ℕ → ℕ
 enables p n = endingMask + weigh (leb (2 * p) n) buffStatusMask
 

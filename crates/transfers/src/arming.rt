@@ -12,6 +12,7 @@ ghost use Prim.Native.Nat.{_+_, _≤_, _<_};
 ghost use lib.ListN.{length};
 ghost use Rattle.transfers.specs.Arming.{mayArm, inArm, inArmTwo, outArm, outArmTwo};
 ghost use Rattle.transfers.specs.Arms.{ArmsIn, ArmsOut, ArmsOutTwo};
+ghost use Rattle.transfers.specs.Memory.{LogFits, MemoryFits};
 
 pub(crate) struct InArmed {
     pub packets: InPacketiser,
@@ -45,7 +46,7 @@ fn may_arm(buffers: u32, inflight: u8, slot: bool) -> bool
 }
 
 fn in_arm(buffers: u32, c: InPacketiser, inflight: u8, log: &mut [u32], k: usize) -> InArmed
-    requires { ⌜ (k ≤ 61) × (192 ≤ length (now log)) ⌝ }
+    requires { ⌜ (k ≤ 61) × LogFits (now log) ⌝ }
     ensures { λ r. ⌜ ArmsIn (inArm buffers c inflight) (now (log .entry)) k r (now (log .exit)) ⌝ }
 {
     if !may_arm(buffers, inflight, c.slot) {
@@ -79,7 +80,7 @@ pub(crate) fn in_arm_two(
     log: &mut [u32],
     k: usize,
 ) -> InArmed
-    requires { ⌜ (k ≤ 58) × (192 ≤ length (now log)) ⌝ }
+    requires { ⌜ (k ≤ 58) × LogFits (now log) ⌝ }
     ensures { λ r. ⌜ ArmsIn (inArmTwo buffers c inflight) (now (log .entry)) k r (now (log .exit)) ⌝ }
 {
     let g = in_arm(buffers, c, inflight, log, k);
@@ -97,7 +98,7 @@ fn out_prepare(
     log: &mut [u32],
     k: usize,
 ) -> OutArmed
-    requires { ⌜ (c .offset + c .remain ≤ length (now buf)) × (length (now pm) ≡ 4096) × (k ≤ 61) × (192 ≤ length (now log)) ⌝ }
+    requires { ⌜ (c .offset + c .remain ≤ length (now buf)) × MemoryFits (now pm) × (k ≤ 61) × LogFits (now log) ⌝ }
     ensures { λ r. ⌜ ArmsOut (outArm buffers c inflight (now (buf .entry)) (now (pm .entry))) (now (log .entry)) k r (now (pm .exit)) (now (log .exit)) ⌝ }
 {
     if !may_arm(buffers, inflight, c.slot) {
@@ -140,7 +141,7 @@ fn prepare<'a>(
     log: &mut [u32],
     k: usize,
 ) -> OutArmed
-    requires { ⌜ (p .counters .offset + p .counters .remain ≤ length (now (p .buf))) × (length (now pm) ≡ 4096) × (k ≤ 61) × (192 ≤ length (now log)) ⌝ }
+    requires { ⌜ (p .counters .offset + p .counters .remain ≤ length (now (p .buf))) × MemoryFits (now pm) × (k ≤ 61) × LogFits (now log) ⌝ }
     ensures { λ r. ⌜ ArmsOut (outArm buffers (p .entry .counters) inflight (now (p .entry .buf)) (now (pm .entry))) (now (log .entry)) k r (now (pm .exit)) (now (log .exit)) ⌝ }
 {
     out_prepare(buffers, p.counters, inflight, p.buf, pm, log, k)
@@ -155,7 +156,7 @@ fn out_arm(
     log: &mut [u32],
     k: usize,
 ) -> OutArmed
-    requires { ⌜ (c .offset + c .remain ≤ length (now buf)) × (length (now pm) ≡ 4096) × (k ≤ 61) × (192 ≤ length (now log)) ⌝ }
+    requires { ⌜ (c .offset + c .remain ≤ length (now buf)) × MemoryFits (now pm) × (k ≤ 61) × LogFits (now log) ⌝ }
     ensures { λ r. ⌜ ArmsOut (outArm buffers c inflight (now (buf .entry)) (now (pm .entry))) (now (log .entry)) k r (now (pm .exit)) (now (log .exit)) ⌝ }
 {
     prepare(
@@ -180,7 +181,7 @@ pub(crate) fn out_arm_two(
     log: &mut [u32],
     k: usize,
 ) -> OutArmedTwo
-    requires { ⌜ (c .offset + c .remain ≤ length (now buf)) × (length (now pm) ≡ 4096) × (k ≤ 58) × (192 ≤ length (now log)) ⌝ }
+    requires { ⌜ (c .offset + c .remain ≤ length (now buf)) × MemoryFits (now pm) × (k ≤ 58) × LogFits (now log) ⌝ }
     ensures { λ r. ⌜ ArmsOutTwo (outArmTwo buffers c inflight (now (buf .entry)) (now (pm .entry))) (now (log .entry)) k r (now (pm .exit)) (now (log .exit)) ⌝ }
 {
     let g = out_arm(buffers, c, inflight, buf, pm, log, k);

@@ -22,6 +22,8 @@ ghost use mathlib.Core.Path.{_≡_};
 ghost use mathlib.Core.Bool.{true, false};
 ghost use Rattle.transfers.specs.Calls.{stepOf, cancelOf, beginControlOf, beginBulkInOf, beginBulkOutOf};
 ghost use Rattle.transfers.specs.Driver.{fresh, withTransfer, DidBegin, DidStep, dropped};
+ghost use Rattle.transfers.specs.Reply.{beginReply, stepReply, cancelReply};
+ghost use Rattle.transfers.specs.Rows.{controlRow, bulkRow, stepRow, cancelRow};
 
 pub struct Begun {
     pub next: Driver,
@@ -84,7 +86,8 @@ impl Driver {
         pm: &[u8],
         log: &mut [u32],
     ) -> Begun
-        ensures { λ r. ⌜ DidBegin self (beginControlOf (self .transfer) address extras size setup phase (now (buf .entry)) (now (pm .entry)) (now (log .entry))) (now (log .entry)) r (now (pm .entry)) (now (log .exit)) ⌝ }
+        ensures { λ r. ⌜ DidBegin self (beginControlOf (self .transfer) address extras size setup phase (now (buf .entry)) (now (pm .entry)) (now (log .entry))) (now (log .entry)) r (now (pm .entry)) (now (log .exit))
+            × (beginReply (r .answer) ≡ controlRow (self .transfer) address size (now (pm .entry)) (now (log .entry))) ⌝ }
     {
         let t = self.transfer;
         let b = crate::begin::begin_control(t, address, extras, size, setup, phase, buf, pm, log);
@@ -113,7 +116,8 @@ impl Driver {
         pm: &[u8],
         log: &mut [u32],
     ) -> Begun
-        ensures { λ r. ⌜ DidBegin self (beginBulkInOf (self .transfer) address endpoint size kind toggle (now (buf .entry)) (now (pm .entry)) (now (log .entry))) (now (log .entry)) r (now (pm .entry)) (now (log .exit)) ⌝ }
+        ensures { λ r. ⌜ DidBegin self (beginBulkInOf (self .transfer) address endpoint size kind toggle (now (buf .entry)) (now (pm .entry)) (now (log .entry))) (now (log .entry)) r (now (pm .entry)) (now (log .exit))
+            × (beginReply (r .answer) ≡ bulkRow (self .transfer) address endpoint size (now (buf .entry)) (now (pm .entry)) (now (log .entry))) ⌝ }
     {
         let t = self.transfer;
         let b = crate::begin::begin_bulk_in(t, address, endpoint, size, kind, toggle, buf, pm, log);
@@ -142,7 +146,8 @@ impl Driver {
         pm: &mut [u8],
         log: &mut [u32],
     ) -> Begun
-        ensures { λ r. ⌜ DidBegin self (beginBulkOutOf (self .transfer) address endpoint size kind toggle (now (buf .entry)) (now (pm .entry)) (now (log .entry))) (now (log .entry)) r (now (pm .exit)) (now (log .exit)) ⌝ }
+        ensures { λ r. ⌜ DidBegin self (beginBulkOutOf (self .transfer) address endpoint size kind toggle (now (buf .entry)) (now (pm .entry)) (now (log .entry))) (now (log .entry)) r (now (pm .exit)) (now (log .exit))
+            × (beginReply (r .answer) ≡ bulkRow (self .transfer) address endpoint size (now (buf .entry)) (now (pm .entry)) (now (log .entry))) ⌝ }
     {
         let t = self.transfer;
         let b = crate::begin::begin_bulk_out(
@@ -178,7 +183,8 @@ impl Driver {
         log: &mut [u32],
     ) -> Stepped
         ensures { λ r. ⌜ DidStep self (stepOf true (self .transfer) sample (now (buf .entry)) (now (pm .entry)) (now (log .entry))) (now (log .entry)) r (now (pm .exit)) (now (log .exit))
-            × (now (buf .exit) ≡ stepOf true (self .transfer) sample (now (buf .entry)) (now (pm .entry)) (now (log .entry)) .buffer) ⌝ }
+            × (now (buf .exit) ≡ stepOf true (self .transfer) sample (now (buf .entry)) (now (pm .entry)) (now (log .entry)) .buffer)
+            × (stepReply (r .answer) ≡ stepRow true (self .transfer) sample (now (buf .entry)) (now (pm .entry)) (now (log .entry))) ⌝ }
     {
         let t = self.transfer;
         let p = crate::step::step_in(t, sample, buf, pm, log);
@@ -200,7 +206,8 @@ impl Driver {
 
     // A step of bulk OUT or control Out: the buffer is sent.
     pub fn step_out(mut self, sample: Sample, buf: &[u8], pm: &mut [u8], log: &mut [u32]) -> Stepped
-        ensures { λ r. ⌜ DidStep self (stepOf false (self .transfer) sample (now (buf .entry)) (now (pm .entry)) (now (log .entry))) (now (log .entry)) r (now (pm .exit)) (now (log .exit)) ⌝ }
+        ensures { λ r. ⌜ DidStep self (stepOf false (self .transfer) sample (now (buf .entry)) (now (pm .entry)) (now (log .entry))) (now (log .entry)) r (now (pm .exit)) (now (log .exit))
+            × (stepReply (r .answer) ≡ stepRow false (self .transfer) sample (now (buf .entry)) (now (pm .entry)) (now (log .entry))) ⌝ }
     {
         let t = self.transfer;
         let p = crate::step::step_out(t, sample, buf, pm, log);
@@ -222,7 +229,7 @@ impl Driver {
 
     // The Rust's dropping the future.
     pub fn cancel(mut self) -> Dropped
-        ensures { λ r. ⌜ r ≡ dropped self (cancelOf (self .transfer)) ⌝ }
+        ensures { λ r. ⌜ (r ≡ dropped self (cancelOf (self .transfer))) × (cancelReply (r .answer) ≡ cancelRow (self .transfer)) ⌝ }
     {
         let t = self.transfer;
         let c = crate::begin::cancel(t);

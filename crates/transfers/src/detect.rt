@@ -5,8 +5,11 @@ use crate::host_controller::UsbSpeed;
 use crate::log::put;
 use crate::memory::log_fits;
 use crate::refusal::Refusal;
+use crate::registers::CONNECT_MASK;
 use crate::registers::INTE;
 ghost use mathlib.Core.Path.{_≡_};
+ghost use Rattle.transfers.specs.Reply.{detectReply};
+ghost use Rattle.transfers.specs.Rows.{detectRow};
 ghost use Rattle.transfers.specs.Detect.{statusAt, sameSpeed, sameStatus, detectingStatus, detecting, DidDetect};
 
 pub enum DetectAnswer {
@@ -78,7 +81,7 @@ fn detect_status(last: DeviceStatus, sie: u32, log: &mut [u32]) -> StatusDetecte
         };
     }
     let status = status_at(sie / 0x100 % 4);
-    let writes = put(log, 0, INTE, 1, 1);
+    let writes = put(log, 0, INTE, CONNECT_MASK, CONNECT_MASK);
     if same_status(status, last) {
         StatusDetected {
             next: last,
@@ -96,7 +99,8 @@ fn detect_status(last: DeviceStatus, sie: u32, log: &mut [u32]) -> StatusDetecte
 
 impl Driver {
     pub fn detect(self, sie: u32, log: &mut [u32]) -> Detected
-        ensures { λ r. ⌜ DidDetect (detecting self sie (now (log .entry))) (r .next) (r .answer) (r .writes) (now (log .entry)) (now (log .exit)) ⌝ }
+        ensures { λ r. ⌜ DidDetect (detecting self sie (now (log .entry))) (r .next) (r .answer) (r .writes) (now (log .entry)) (now (log .exit))
+            × (detectReply (r .answer) ≡ detectRow (self .last) sie (now (log .entry))) ⌝ }
     {
         let transfer = self.transfer;
         let entries = self.entries;

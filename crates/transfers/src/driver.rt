@@ -2,7 +2,7 @@
 use crate::host_controller::DataPhase;
 use crate::host_controller::DeviceStatus;
 use crate::wire::Direction;
-use pool::async_pool::Pool;
+use pool::bitset::BitSet;
 
 // `entries` is how many entries of the wire record the transfer under way has armed.
 pub struct Driver {
@@ -81,9 +81,9 @@ pub struct OutStage {
     pub received: u16,
 }
 
-// The interrupt pipes: which are open, and of each its packet size and toggle.
+// The interrupt pipes: which are open, by their indices, and of each its packet size and toggle.
 pub struct Pipes {
-    pub pool: Pool,
+    pub opened: BitSet,
     pub each: [Pipe; 15],
 }
 

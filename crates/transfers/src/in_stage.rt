@@ -18,6 +18,7 @@ use crate::progress::nothing_armed;
 use crate::progress::stage_length;
 use crate::progress::wait;
 use crate::registers::ALL;
+use crate::registers::RESULTS;
 use crate::registers::SIE_STATUS;
 use crate::retiring::in_retire;
 use crate::sample::Found;
@@ -27,10 +28,11 @@ use cutting::depacketiser::InDepacketiser;
 use cutting::packetiser::InPacketiser;
 ghost use mathlib.Core.Path.{_≡_};
 ghost use mathlib.Core.List.{List};
-ghost use Prim.Native.Nat.{ℕ, _+_, _≤_, _<_};
+ghost use Prim.Native.Nat.{ℕ, _+_, _≤_};
 ghost use lib.ListN.{length};
 ghost use Rattle.transfers.specs.Step.{statusCount, inControlDone, inDone, inComplete, inPackets, inReceived, inRearm, inMove, inStep};
 ghost use Rattle.transfers.specs.Acts.{Tells, Moves, Acts};
+ghost use Rattle.transfers.specs.Memory.{LogFits, MemoryFits};
 
 fn in_packets(x: Request, st: InStage) -> InPacketiser
     ensures { λ r. ⌜ r ≡ inPackets x st ⌝ }
@@ -74,7 +76,7 @@ fn in_control_done(
     log: &mut [u32],
     k: usize,
 ) -> Progress
-    requires { ⌜ (length (now pm) ≡ 4096) × (k ≤ 40) × (192 ≤ length (now log)) ⌝ }
+    requires { ⌜ MemoryFits (now pm) × (k ≤ 40) × LogFits (now log) ⌝ }
     ensures { λ r. ⌜ ((b : List ℕ) → Moves (inControlDone status phase x received (now (pm .entry)) b) (now (log .entry)) k r (now (pm .exit)) (now (log .exit))) ⌝ }
 {
     if status {
@@ -92,7 +94,7 @@ fn in_done(
     log: &mut [u32],
     k: usize,
 ) -> Progress
-    requires { ⌜ (length (now pm) ≡ 4096) × (k ≤ 40) × (192 ≤ length (now log)) ⌝ }
+    requires { ⌜ MemoryFits (now pm) × (k ≤ 40) × LogFits (now log) ⌝ }
     ensures { λ r. ⌜ ((b : List ℕ) → Moves (inDone (x .kind) status x d (now (pm .entry)) b) (now (log .entry)) k r (now (pm .exit)) (now (log .exit))) ⌝ }
 {
     let kind = x.kind;
@@ -119,7 +121,7 @@ fn in_complete(
     log: &mut [u32],
     k: usize,
 ) -> Progress
-    requires { ⌜ (st .offset + st .remain ≤ length (now buf)) × (length (now pm) ≡ 4096) × (k ≤ 30) × (192 ≤ length (now log)) ⌝ }
+    requires { ⌜ (st .offset + st .remain ≤ length (now buf)) × MemoryFits (now pm) × (k ≤ 30) × LogFits (now log) ⌝ }
     ensures { λ r. ⌜ Acts (inComplete x st buffers (now (buf .entry)) (now (pm .entry))) (now (log .entry)) k r (now (pm .exit)) (now (buf .exit)) (now (log .exit)) ⌝ }
 {
     let c = in_received(st);
@@ -127,7 +129,7 @@ fn in_complete(
     if g.long {
         return fail(x, UsbError::ProtocolError, k);
     }
-    let k = put(log, k, SIE_STATUS, ALL, 0xFF00_0000);
+    let k = put(log, k, SIE_STATUS, ALL, RESULTS);
     let d = g.packets;
     let h = in_retire(buffers, d, g.inflight, buf, pm);
     if h.long {
@@ -146,7 +148,7 @@ fn in_rearm(
     log: &mut [u32],
     k: usize,
 ) -> Progress
-    requires { ⌜ (k ≤ 40) × (192 ≤ length (now log)) ⌝ }
+    requires { ⌜ (k ≤ 40) × LogFits (now log) ⌝ }
     ensures { λ r. ⌜ ((m b : List ℕ) → Tells (inRearm x st d inflight buffers m b) (now (log .entry)) k r (now (log .exit))) ⌝ }
 {
     let c = in_packets(x, st);
@@ -177,7 +179,7 @@ fn in_move(
     log: &mut [u32],
     k: usize,
 ) -> Progress
-    requires { ⌜ (st .offset + st .remain ≤ length (now buf)) × (length (now pm) ≡ 4096) × (k ≤ 30) × (192 ≤ length (now log)) ⌝ }
+    requires { ⌜ (st .offset + st .remain ≤ length (now buf)) × MemoryFits (now pm) × (k ≤ 30) × LogFits (now log) ⌝ }
     ensures { λ r. ⌜ Acts (inMove x st buffers (now (buf .entry)) (now (pm .entry))) (now (log .entry)) k r (now (pm .exit)) (now (buf .exit)) (now (log .exit)) ⌝ }
 {
     let c = in_received(st);
@@ -204,7 +206,7 @@ pub(crate) fn in_step(
     log: &mut [u32],
     k: usize,
 ) -> Progress
-    requires { ⌜ (st .offset + st .remain ≤ length (now buf)) × (length (now pm) ≡ 4096) × (k ≤ 20) × (192 ≤ length (now log)) ⌝ }
+    requires { ⌜ (st .offset + st .remain ≤ length (now buf)) × MemoryFits (now pm) × (k ≤ 20) × LogFits (now log) ⌝ }
     ensures { λ r. ⌜ Acts (inStep found x st buffers (now (buf .entry)) (now (pm .entry))) (now (log .entry)) k r (now (pm .exit)) (now (buf .exit)) (now (log .exit)) ⌝ }
 {
     let k = put_quiets(log, k);

@@ -2,16 +2,15 @@
 use crate::log::put;
 use crate::memory::log_fits;
 use crate::refusal::Refusal;
-use crate::registers::ALL;
-use crate::registers::BUFF_STATUS;
-use crate::registers::INTE;
-use crate::registers::READY_MASK;
+use crate::registers::*;
 ghost use mathlib.Core.Path.{_≡_};
 ghost use Prim.Native.Nat.{_+_, _≤_, _<_, _^_};
-ghost use lib.ListN.{length};
 ghost use Rattle.transfers.specs.Irq.{hasBuffer, isWoken, wokenPipes, clearWrites, waking, DidWake};
 ghost use Rattle.transfers.specs.Log.{Wrote};
 ghost use Rattle.transfers.specs.Registers.{bit, weigh};
+ghost use Rattle.transfers.specs.Reply.{irqReply};
+ghost use Rattle.transfers.specs.Rows.{irqRow};
+ghost use Rattle.transfers.specs.Memory.{LogFits};
 
 // Bit i of `pipes` stands for pipe i; `detect` for device detection.
 pub struct Wake {
@@ -35,7 +34,7 @@ fn has_buffer(ints: u32, status: u32, i: u32) -> bool
     requires { ⌜ i < 16 ⌝ }
     ensures { λ r. ⌜ r ≡ hasBuffer ints status i ⌝ }
 {
-    if ints / 0x10 % 2 == 1 {
+    if bit(ints, 4) {
         (status >> (2 * i)) % 4 != 0
     } else {
         false
@@ -74,18 +73,19 @@ fn woken_pipes(ints: u32, status: u32) -> u16
 }
 
 fn clear_buffers(ints: u32, log: &mut [u32]) -> usize
-    requires { ⌜ 192 ≤ length (now log) ⌝ }
+    requires { ⌜ LogFits (now log) ⌝ }
     ensures { λ r. ⌜ Wrote (now (log .entry)) 0 (clearWrites (bit 4 ints)) (now (log .exit)) r × (r ≤ 1) ⌝ }
 {
-    if ints / 0x10 % 2 == 1 {
-        put(log, 0, BUFF_STATUS, ALL, 0xFFFF_FFFC)
+    if bit(ints, 4) {
+        put(log, 0, BUFF_STATUS, ALL, PIPE_BUFFERS)
     } else {
         0
     }
 }
 
 pub fn on_irq(ints: u32, buff_status: u32, log: &mut [u32]) -> Woken
-    ensures { λ r. ⌜ DidWake (waking ints «buff_status» (now (log .entry))) r (now (log .entry)) (now (log .exit)) ⌝ }
+    ensures { λ r. ⌜ DidWake (waking ints «buff_status» (now (log .entry))) r (now (log .entry)) (now (log .exit))
+        × (irqReply (r .answer) ≡ irqRow ints «buff_status» (now (log .entry))) ⌝ }
 {
     if !log_fits(log) {
         return Woken {
@@ -98,7 +98,7 @@ pub fn on_irq(ints: u32, buff_status: u32, log: &mut [u32]) -> Woken
     Woken {
         answer: IrqAnswer::Wake(Wake {
             pipes: woken_pipes(ints, buff_status),
-            detect: ints % 2 == 1,
+            detect: bit(ints, 0),
         }),
         writes,
     }

@@ -3,7 +3,7 @@ ghost use mathlib.Core.Path.{_≡_};
 ghost use Prim.Native.Nat.{_+_, _≤_, _<_};
 ghost use lib.ListN.{length, take, drop};
 ghost use lib.Seq.{sets};
-ghost use Rattle.transfers.specs.Memory.{logFits, lentFits, slotAddress};
+ghost use Rattle.transfers.specs.Memory.{MemoryFits, logFits, lentFits, slotAddress};
 
 pub(crate) fn log_fits(log: &[u32]) -> bool
     ensures { λ r. ⌜ r ≡ logFits (now (log .entry)) ⌝ }
@@ -40,7 +40,7 @@ fn copy(dst: &mut [u8], at: usize, src: &[u8], n: usize)
 
 // A packet's bytes, the first n of a part of the caller's buffer, go into a slot.
 pub(crate) fn fill_slot(pm: &mut [u8], slot: bool, part: &[u8], n: usize)
-    requires { ⌜ (n ≤ 64) × (n ≤ length (now part)) × (length (now pm) ≡ 4096) ⌝ }
+    requires { ⌜ (n ≤ 64) × (n ≤ length (now part)) × MemoryFits (now pm) ⌝ }
     ensures { λ _. ⌜ now (pm .exit) ≡ sets (now (pm .entry)) (slotAddress slot) (take n (now (part .entry))) ⌝ }
 {
     let at = slot_address(slot);
@@ -49,7 +49,7 @@ pub(crate) fn fill_slot(pm: &mut [u8], slot: bool, part: &[u8], n: usize)
 
 // The first n bytes of a slot go into the caller's buffer from an offset on.
 pub(crate) fn take_slot(buf: &mut [u8], offset: usize, pm: &[u8], slot: bool, n: usize)
-    requires { ⌜ (n ≤ 64) × (offset + n ≤ length (now buf)) × (length (now pm) ≡ 4096) ⌝ }
+    requires { ⌜ (n ≤ 64) × (offset + n ≤ length (now buf)) × MemoryFits (now pm) ⌝ }
     ensures { λ _. ⌜ now (buf .exit) ≡ sets (now (buf .entry)) offset (take n (drop (slotAddress slot) (now (pm .entry)))) ⌝ }
 {
     let at = slot_address(slot);

@@ -17,6 +17,7 @@ use crate::progress::stage_length;
 use crate::progress::target_of;
 use crate::progress::wait;
 use crate::registers::ALL;
+use crate::registers::RESULTS;
 use crate::registers::SIE_STATUS;
 use crate::retiring::out_retire;
 use crate::sample::Found;
@@ -25,10 +26,11 @@ use crate::writes::put_quiets;
 use cutting::packetiser::OutCounters;
 ghost use mathlib.Core.Path.{_≡_};
 ghost use mathlib.Core.List.{List};
-ghost use Prim.Native.Nat.{ℕ, _+_, _≤_, _<_};
+ghost use Prim.Native.Nat.{ℕ, _+_, _≤_};
 ghost use lib.ListN.{length};
 ghost use Rattle.transfers.specs.Step.{outPackets, outControlDone, outDone, outComplete, outMove, outStep};
 ghost use Rattle.transfers.specs.Acts.{Tells, Moves};
+ghost use Rattle.transfers.specs.Memory.{LogFits, MemoryFits};
 
 fn out_packets(x: Request, st: OutStage) -> OutCounters
     ensures { λ r. ⌜ r ≡ outPackets x st ⌝ }
@@ -45,7 +47,7 @@ fn out_packets(x: Request, st: OutStage) -> OutCounters
 }
 
 fn out_control_done(x: Request, status: bool, received: u16, log: &mut [u32], k: usize) -> Progress
-    requires { ⌜ (k ≤ 40) × (192 ≤ length (now log)) ⌝ }
+    requires { ⌜ (k ≤ 40) × LogFits (now log) ⌝ }
     ensures { λ r. ⌜ ((m buf : List ℕ) → Tells (outControlDone status x received m buf) (now (log .entry)) k r (now (log .exit))) ⌝ }
 {
     if status {
@@ -55,7 +57,7 @@ fn out_control_done(x: Request, status: bool, received: u16, log: &mut [u32], k:
 }
 
 fn out_done(x: Request, st: OutStage, parity: bool, log: &mut [u32], k: usize) -> Progress
-    requires { ⌜ (k ≤ 40) × (192 ≤ length (now log)) ⌝ }
+    requires { ⌜ (k ≤ 40) × LogFits (now log) ⌝ }
     ensures { λ r. ⌜ ((m buf : List ℕ) → Tells (outDone (x .kind) x st parity m buf) (now (log .entry)) k r (now (log .exit))) ⌝ }
 {
     let kind = x.kind;
@@ -67,11 +69,11 @@ fn out_done(x: Request, st: OutStage, parity: bool, log: &mut [u32], k: usize) -
 
 // The stage is complete: up to two slots are retired, then the transfer ends or goes into its status stage.
 fn out_complete(x: Request, st: OutStage, buffers: u32, log: &mut [u32], k: usize) -> Progress
-    requires { ⌜ (k ≤ 30) × (192 ≤ length (now log)) ⌝ }
+    requires { ⌜ (k ≤ 30) × LogFits (now log) ⌝ }
     ensures { λ r. ⌜ ((m buf : List ℕ) → Tells (outComplete x st buffers m buf) (now (log .entry)) k r (now (log .exit))) ⌝ }
 {
     let g = out_retire(buffers, st.retire, st.inflight);
-    let k = put(log, k, SIE_STATUS, ALL, 0xFF00_0000);
+    let k = put(log, k, SIE_STATUS, ALL, RESULTS);
     let h = out_retire(buffers, g.parity, g.inflight);
     out_done(x, st, h.parity, log, k)
 }
@@ -86,7 +88,7 @@ fn out_move(
     log: &mut [u32],
     k: usize,
 ) -> Progress
-    requires { ⌜ (st .offset + st .remain ≤ length (now buf)) × (length (now pm) ≡ 4096) × (k ≤ 30) × (192 ≤ length (now log)) ⌝ }
+    requires { ⌜ (st .offset + st .remain ≤ length (now buf)) × MemoryFits (now pm) × (k ≤ 30) × LogFits (now log) ⌝ }
     ensures { λ r. ⌜ Moves (outMove x st buffers (now (buf .entry)) (now (pm .entry))) (now (log .entry)) k r (now (pm .exit)) (now (log .exit)) ⌝ }
 {
     let r = out_retire(buffers, st.retire, st.inflight);
@@ -122,7 +124,7 @@ pub(crate) fn out_step(
     log: &mut [u32],
     k: usize,
 ) -> Progress
-    requires { ⌜ (st .offset + st .remain ≤ length (now buf)) × (length (now pm) ≡ 4096) × (k ≤ 20) × (192 ≤ length (now log)) ⌝ }
+    requires { ⌜ (st .offset + st .remain ≤ length (now buf)) × MemoryFits (now pm) × (k ≤ 20) × LogFits (now log) ⌝ }
     ensures { λ r. ⌜ Moves (outStep found x st buffers (now (buf .entry)) (now (pm .entry))) (now (log .entry)) k r (now (pm .exit)) (now (log .exit)) ⌝ }
 {
     let k = put_quiets(log, k);

@@ -10,13 +10,7 @@ use crate::log::put_delay;
 use crate::memory::lent_fits;
 use crate::memory::log_fits;
 use crate::refusal::Refusal;
-use crate::registers::ADDR_ENDP;
-use crate::registers::ALL;
-use crate::registers::EP_BUFFER_CONTROL;
-use crate::registers::EP_CONTROL;
-use crate::registers::EP_STATUS_STALL_NAK;
-use crate::registers::INT_EP_CTRL;
-use crate::registers::INTE;
+use crate::registers::*;
 use crate::state::endpoint_good;
 use crate::state::size_good;
 use crate::writes::preamble;
@@ -24,14 +18,18 @@ use crate::writes::weight;
 use pool::async_pool::OptionIndex;
 use pool::async_pool::Pool;
 use pool::async_pool::PoolIndex;
+use pool::bitset::BitSet;
 use pool::pipe::OptionPipe;
 use pool::pipe::PipeNumber;
 ghost use mathlib.Core.Path.{_≡_};
 ghost use Prim.Native.Nat.{_+_, _*_, _≤_, _<_, _^_};
 ghost use lib.ListN.{length};
-ghost use Rattle.pool.proofs.Pipes.{Counted};
+ghost use Rattle.pool.specs.Pipe.{Counted};
 ghost use Rattle.transfers.specs.Log.{Wrote};
-ghost use Rattle.transfers.specs.Pipes.{freshPipes, pipeArea, armPipe, pollInterval, openWrites, openFree, openingPipe, opening, DidOpen, indexOpen, closingPipe, closing, packetSize, packetData, packetOf, noPacket, waitWrites, pollFull, pollingPipe, polling, DidPoll};
+ghost use Rattle.transfers.specs.Reply.{openReply, closeReply, pollReply};
+ghost use Rattle.transfers.specs.Rows.{openRow, closeRow, pollRow};
+ghost use Rattle.transfers.specs.Pipes.{freshPipes, poolOf, pipeArea, armPipe, pollInterval, openWrites, openFree, openingPipe, opening, DidOpen, indexOpen, closingPipe, closing, packetSize, packetData, packetOf, noPacket, waitWrites, pollFull, pollingPipe, polling, DidPoll};
+ghost use Rattle.transfers.specs.Memory.{LogFits, MemoryFits};
 
 // EP_BUFFER_CONTROL and HOST_ADDR_ENDP of a pipe, as read.
 pub struct PipeSample {
@@ -96,11 +94,21 @@ pub(crate) fn fresh_pipes() -> Pipes
     ensures { λ r. ⌜ r ≡ freshPipes ⌝ }
 {
     Pipes {
-        pool: Pool::new(15),
+        opened: BitSet::new(),
         each: [Pipe {
             size: 0,
             toggle: false,
         }; 15],
+    }
+}
+
+// The pool of the 15 pipes, those in the set allocated.
+fn pool_of(opened: BitSet) -> Pool
+    ensures { λ r. ⌜ r ≡ poolOf opened ⌝ }
+{
+    Pool {
+        total: 15,
+        allocated: opened,
     }
 }
 
@@ -112,14 +120,14 @@ fn pipe_area(n: u32) -> u32
 }
 
 fn arm_pipe(log: &mut [u32], k: usize, n: u32, toggle: bool, size: u32) -> usize
-    requires { ⌜ (k ≤ 61) × (192 ≤ length (now log)) × (n ≤ 15) × (size < 256) ⌝ }
+    requires { ⌜ (k ≤ 61) × LogFits (now log) × (n ≤ 15) × (size < 256) ⌝ }
     ensures { λ r. ⌜ Wrote (now (log .entry)) k (armPipe n toggle size) (now (log .exit)) r ⌝ }
 {
     let register = EP_BUFFER_CONTROL + 8 * n;
-    let value = 0x4000 + weight(toggle, 0x2000) + size;
+    let value = LAST + weight(toggle, PID) + size;
     let k = put(log, k, register, ALL, value);
     let k = put_delay(log, k);
-    put(log, k, register, 0x400, 0x400)
+    put(log, k, register, AVAILABLE, AVAILABLE)
 }
 
 const MAX_POLL_INTERVAL: u8 = 9;
@@ -143,12 +151,14 @@ fn put_open(
     size: u8,
     interval: u8,
 ) -> usize
-    requires { ⌜ (192 ≤ length (now log)) × (pipe .0 ≤ 15) × (address ≤ 127) × (endpoint ≤ 15) ⌝ }
+    requires { ⌜ LogFits (now log) × (pipe .0 ≤ 15) × (address ≤ 127) × (endpoint ≤ 15) ⌝ }
     ensures { λ r. ⌜ Wrote (now (log .entry)) 0 (openWrites (pipe .0) address extras endpoint size interval) (now (log .exit)) r ⌝ }
 {
     let n = pipe.0 as u32;
-    let target = address as u32 + endpoint as u32 * 0x1_0000 + weight(preamble(extras), 0x400_0000);
-    let control = 0xAC00_0000 + poll_interval(interval) as u32 * 0x1_0000 + pipe_area(n);
+    let target = address as u32
+        + endpoint as u32 * 0x1_0000
+        + weight(preamble(extras), INTEP_PREAMBLE);
+    let control = PIPE_ENABLED + poll_interval(interval) as u32 * 0x1_0000 + pipe_area(n);
     let k = put(log, 0, ADDR_ENDP + 4 * n, ALL, target);
     let k = put(log, k, EP_CONTROL + 8 * n, ALL, control);
     arm_pipe(log, k, n, false, size as u32)
@@ -173,10 +183,11 @@ fn open_free(
     interval: u8,
     log: &mut [u32],
 ) -> PipesOpened
-    requires { ⌜ (192 ≤ length (now log)) × (address ≤ 127) × (endpoint ≤ 15) ⌝ }
+    requires { ⌜ LogFits (now log) × (address ≤ 127) × (endpoint ≤ 15) ⌝ }
     ensures { λ r. ⌜ DidOpen (openFree pipes address extras endpoint size interval) (r .next) (r .answer) (r .writes) (now (log .entry)) (now (log .exit)) ⌝ }
 {
-    let pool = pipes.pool;
+    let opened = pipes.opened;
+    let pool = pool_of(opened);
     let taken = pool.alloc();
     let index = taken.index;
     let OptionIndex::Some(at) = index else {
@@ -188,8 +199,9 @@ fn open_free(
     };
     let writes = put_open(log, n, address, extras, endpoint, size, interval);
     let left = taken.pool;
+    let opened = left.allocated;
     let i = at.0 as usize;
-    pipes.pool = left;
+    pipes.opened = opened;
     pipes.each[i] = Pipe {
         size,
         toggle: false,
@@ -228,15 +240,14 @@ fn open_pipe(
 }
 
 // The index of a pipe that is open.
-fn index_open(pool: Pool, pipe: PipeNumber) -> OptionIndex
-    ensures { λ r. ⌜ r ≡ indexOpen pool pipe ⌝ }
+fn index_open(opened: BitSet, pipe: PipeNumber) -> OptionIndex
+    ensures { λ r. ⌜ r ≡ indexOpen opened pipe ⌝ }
 {
     let index = pipe.index();
     let OptionIndex::Some(at) = index else {
         return OptionIndex::None;
     };
-    let allocated = pool.allocated;
-    if allocated.contains(at.0) {
+    if opened.contains(at.0) {
         OptionIndex::Some(at)
     } else {
         OptionIndex::None
@@ -246,17 +257,19 @@ fn index_open(pool: Pool, pipe: PipeNumber) -> OptionIndex
 fn close_pipe(mut pipes: Pipes, pipe: PipeNumber) -> PipesClosed
     ensures { λ r. ⌜ r ≡ closingPipe pipes pipe ⌝ }
 {
-    let pool = pipes.pool;
-    let index = index_open(pool, pipe);
+    let opened = pipes.opened;
+    let index = index_open(opened, pipe);
     let OptionIndex::Some(at) = index else {
         return PipesClosed {
             next: pipes,
             answer: CloseAnswer::Refused(Refusal::PipeNotOpen),
         };
     };
+    let pool = pool_of(opened);
     let freed = pool.free(at);
     let left = freed.pool;
-    pipes.pool = left;
+    let opened = left.allocated;
+    pipes.opened = opened;
     PipesClosed {
         next: pipes,
         answer: CloseAnswer::Closed,
@@ -276,7 +289,7 @@ fn no_packet() -> InterruptPacket
 
 // The first k bytes of a pipe's area, then zeros.
 fn packet_data(pm: &[u8], n: u32, k: u8) -> [u8; 64]
-    requires { ⌜ (length (now pm) ≡ 4096) × (n ≤ 15) × (k ≤ 64) ⌝ }
+    requires { ⌜ MemoryFits (now pm) × (n ≤ 15) × (k ≤ 64) ⌝ }
     ensures { λ r. ⌜ r ≡ packetData (now (pm .entry)) n k ⌝ }
 {
     let area = pipe_area(n) as usize;
@@ -295,7 +308,7 @@ fn packet_size(buffer: u32) -> u8
 }
 
 fn packet_of(n: u32, sample: PipeSample, pm: &[u8]) -> InterruptPacket
-    requires { ⌜ (n ≤ 15) × (length (now pm) ≡ 4096) ⌝ }
+    requires { ⌜ (n ≤ 15) × MemoryFits (now pm) ⌝ }
     ensures { λ r. ⌜ r ≡ packetOf n sample (now (pm .entry)) ⌝ }
 {
     let size = packet_size(sample.buffer);
@@ -316,12 +329,12 @@ fn pipe_bit(n: u32) -> u32
 }
 
 fn put_wait(log: &mut [u32], n: u32) -> usize
-    requires { ⌜ (192 ≤ length (now log)) × (n ≤ 15) ⌝ }
+    requires { ⌜ LogFits (now log) × (n ≤ 15) ⌝ }
     ensures { λ r. ⌜ Wrote (now (log .entry)) 0 (waitWrites n) (now (log .exit)) r ⌝ }
 {
     let bit = pipe_bit(n);
     let status = 3 * pipe_bit(2 * n);
-    let k = put(log, 0, INTE, 0x10, 0x10);
+    let k = put(log, 0, INTE, BUFF_STATUS_MASK, BUFF_STATUS_MASK);
     let k = put(log, k, INT_EP_CTRL, bit, bit);
     put(log, k, EP_STATUS_STALL_NAK, ALL, status)
 }
@@ -345,7 +358,7 @@ fn poll_full(
     pm: &[u8],
     log: &mut [u32],
 ) -> PipesPolled
-    requires { ⌜ (length (now pm) ≡ 4096) × (192 ≤ length (now log)) × Counted at pipe ⌝ }
+    requires { ⌜ MemoryFits (now pm) × LogFits (now log) × Counted at pipe ⌝ }
     ensures { λ r. ⌜ DidPoll (pollFull at pipes pipe sample (now (pm .entry))) (r .next) (r .answer) (r .packet) (r .writes) (now (log .entry)) (now (log .exit)) ⌝ }
 {
     let n = pipe.0 as u32;
@@ -378,12 +391,12 @@ fn poll_pipe(
     if !lent_fits(pm, log) {
         return refuse_poll(pipes, Refusal::LentMemory);
     }
-    let pool = pipes.pool;
-    let index = index_open(pool, pipe);
+    let opened = pipes.opened;
+    let index = index_open(opened, pipe);
     let OptionIndex::Some(at) = index else {
         return refuse_poll(pipes, Refusal::PipeNotOpen);
     };
-    if sample.buffer / 0x8000 % 2 == 1 {
+    if bit(sample.buffer, 15) {
         return poll_full(pipes, at, pipe, sample, pm, log);
     }
     let writes = put_wait(log, pipe.0 as u32);
@@ -405,7 +418,8 @@ impl Driver {
         interval: u8,
         log: &mut [u32],
     ) -> Opened
-        ensures { λ r. ⌜ DidOpen (opening self address extras endpoint size interval (now (log .entry))) (r .next) (r .answer) (r .writes) (now (log .entry)) (now (log .exit)) ⌝ }
+        ensures { λ r. ⌜ DidOpen (opening self address extras endpoint size interval (now (log .entry))) (r .next) (r .answer) (r .writes) (now (log .entry)) (now (log .exit))
+            × (openReply (r .answer) ≡ openRow (self .pipes .opened .0) address endpoint size (now (log .entry))) ⌝ }
     {
         let pipes = self.pipes;
         let o = open_pipe(pipes, address, extras, endpoint, size, interval, log);
@@ -420,7 +434,7 @@ impl Driver {
     }
 
     pub fn close(mut self, pipe: PipeNumber) -> Closed
-        ensures { λ r. ⌜ r ≡ closing self pipe ⌝ }
+        ensures { λ r. ⌜ (r ≡ closing self pipe) × (closeReply (r .answer) ≡ closeRow (self .pipes .opened .0) (pipe .0)) ⌝ }
     {
         let pipes = self.pipes;
         let c = close_pipe(pipes, pipe);
@@ -437,7 +451,8 @@ impl Driver {
         pm: &[u8],
         log: &mut [u32],
     ) -> Polled
-        ensures { λ r. ⌜ DidPoll (polling self pipe sample (now (pm .entry)) (now (log .entry))) (r .next) (r .answer) (r .packet) (r .writes) (now (log .entry)) (now (log .exit)) ⌝ }
+        ensures { λ r. ⌜ DidPoll (polling self pipe sample (now (pm .entry)) (now (log .entry))) (r .next) (r .answer) (r .packet) (r .writes) (now (log .entry)) (now (log .exit))
+            × (pollReply (r .answer) ≡ pollRow (self .pipes .opened .0) (pipe .0) (sample .buffer) (now (pm .entry)) (now (log .entry))) ⌝ }
     {
         let pipes = self.pipes;
         let p = poll_pipe(pipes, pipe, sample, pm, log);

@@ -26,13 +26,14 @@ use cutting::packetiser::OutCounters;
 use cutting::transfer_type::TransferType;
 ghost use mathlib.Core.Path.{_≡_};
 ghost use mathlib.Core.List.{List, []};
-ghost use Prim.Native.Nat.{ℕ, _+_, _≤_, _<_};
+ghost use Prim.Native.Nat.{ℕ, _≤_};
 ghost use lib.ListN.{length};
 ghost use Rattle.transfers.specs.Answers.{nothingArmed, outsArmed};
 ghost use Rattle.transfers.specs.State.{firstPid, targetOf, stageLength};
 ghost use Rattle.transfers.specs.Outcome.{toggleIn, flipped, ended, failed, waits, startIn, startOut, entersIn, entersOut};
 ghost use Rattle.transfers.specs.Acts.{told, Tells, Moves};
 ghost use Rattle.transfers.specs.Starts.{StartsIn, StartsOut};
+ghost use Rattle.transfers.specs.Memory.{LogFits, MemoryFits};
 
 pub struct Progress {
     pub next: Transfer,
@@ -171,7 +172,7 @@ pub(crate) fn start_in(
     log: &mut [u32],
     k: usize,
 ) -> InStarted
-    requires { ⌜ (k ≤ 40) × (192 ≤ length (now log)) ⌝ }
+    requires { ⌜ (k ≤ 40) × LogFits (now log) ⌝ }
     ensures { λ r. ⌜ StartsIn (startIn t kind status n) (now (log .entry)) k r (now (log .exit)) ⌝ }
 {
     let k = put_head(log, k, t, n as usize);
@@ -207,7 +208,7 @@ pub(crate) fn start_out(
     log: &mut [u32],
     k: usize,
 ) -> OutStarted
-    requires { ⌜ (n ≤ length (now buf)) × (length (now pm) ≡ 4096) × (k ≤ 40) × (192 ≤ length (now log)) ⌝ }
+    requires { ⌜ (n ≤ length (now buf)) × MemoryFits (now pm) × (k ≤ 40) × LogFits (now log) ⌝ }
     ensures { λ r. ⌜ StartsOut (startOut t kind status received n (now (buf .entry)) (now (pm .entry))) (now (log .entry)) k r (now (pm .exit)) (now (log .exit)) ⌝ }
 {
     let k = put_head(log, k, t, n as usize);
@@ -237,7 +238,7 @@ pub(crate) fn start_out(
 
 // A control transfer goes into its data or status stage.
 pub(crate) fn enter_in(x: Request, status: bool, n: u16, log: &mut [u32], k: usize) -> Progress
-    requires { ⌜ (k ≤ 40) × (192 ≤ length (now log)) ⌝ }
+    requires { ⌜ (k ≤ 40) × LogFits (now log) ⌝ }
     ensures { λ r. ⌜ ((m b : List ℕ) → Tells (entersIn x status n m b) (now (log .entry)) k r (now (log .exit))) ⌝ }
 {
     let s = start_in(target_of(x), TransferType::FixedSize, status, n, log, k);
@@ -255,7 +256,7 @@ pub(crate) fn enter_out(
     log: &mut [u32],
     k: usize,
 ) -> Progress
-    requires { ⌜ (n ≤ length (now buf)) × (length (now pm) ≡ 4096) × (k ≤ 40) × (192 ≤ length (now log)) ⌝ }
+    requires { ⌜ (n ≤ length (now buf)) × MemoryFits (now pm) × (k ≤ 40) × LogFits (now log) ⌝ }
     ensures { λ r. ⌜ ((b : List ℕ) → Moves (entersOut x status received n (now (buf .entry)) (now (pm .entry)) b) (now (log .entry)) k r (now (pm .exit)) (now (log .exit))) ⌝ }
 {
     let t = target_of(x);

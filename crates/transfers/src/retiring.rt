@@ -8,6 +8,7 @@ ghost use Prim.Native.Nat.{_+_, _≤_, _<_};
 ghost use lib.ListN.{length};
 ghost use Rattle.transfers.specs.Retiring.{outRetireOne, inRetireOne};
 ghost use Rattle.transfers.specs.Arms.{RetiresIn};
+ghost use Rattle.transfers.specs.Memory.{MemoryFits};
 
 pub(crate) struct InRetired {
     pub long: bool,
@@ -27,7 +28,7 @@ pub(crate) fn in_retire(
     buf: &mut [u8],
     pm: &[u8],
 ) -> InRetired
-    requires { ⌜ (c .offset + c .remain ≤ length (now buf)) × (length (now pm) ≡ 4096) ⌝ }
+    requires { ⌜ (c .offset + c .remain ≤ length (now buf)) × MemoryFits (now pm) ⌝ }
     ensures { λ r. ⌜ RetiresIn (inRetireOne buffers c inflight (now (buf .entry)) (now (pm .entry))) r (now (buf .exit)) ⌝ }
 {
     if inflight == 0 {

@@ -1,6 +1,7 @@
 // What a step samples, and what it finds there.
 use crate::host_controller::UsbError;
 use crate::registers::READY_MASK;
+use crate::registers::bit;
 ghost use mathlib.Core.Path.{_≡_};
 ghost use Rattle.transfers.specs.Sample.{errors, firstPlace, firstOf, classify, available, full, lengthIn};
 
@@ -27,22 +28,22 @@ pub enum Found {
 fn first_error(status: u32) -> u32
     ensures { λ r. ⌜ r ≡ firstPlace status errors ⌝ }
 {
-    if status / 0x8000_0000 % 2 == 1 {
+    if bit(status, 31) {
         return 31;
     }
-    if status / 0x2000_0000 % 2 == 1 {
+    if bit(status, 29) {
         return 29;
     }
-    if status / 0x0400_0000 % 2 == 1 {
+    if bit(status, 26) {
         return 26;
     }
-    if status / 0x0800_0000 % 2 == 1 {
+    if bit(status, 27) {
         return 27;
     }
-    if status / 0x0200_0000 % 2 == 1 {
+    if bit(status, 25) {
         return 25;
     }
-    if status / 0x0100_0000 % 2 == 1 {
+    if bit(status, 24) {
         return 24;
     }
     0
@@ -69,7 +70,7 @@ pub fn poll_status(status: u32, intr: u32) -> Poll
     if intr & READY_MASK == 0 {
         return Poll::Pending;
     }
-    if status / 0x4_0000 % 2 == 1 {
+    if bit(status, 18) {
         return Poll::Ready(Found::Complete);
     }
     Poll::Ready(error_of(status))
@@ -80,9 +81,9 @@ pub(crate) fn slot_available(buffers: u32, slot: bool) -> bool
     ensures { λ r. ⌜ r ≡ available buffers slot ⌝ }
 {
     if slot {
-        buffers / 0x0400_0000 % 2 == 1
+        bit(buffers, 26)
     } else {
-        buffers / 0x400 % 2 == 1
+        bit(buffers, 10)
     }
 }
 
@@ -90,9 +91,9 @@ pub(crate) fn slot_full(buffers: u32, slot: bool) -> bool
     ensures { λ r. ⌜ r ≡ full buffers slot ⌝ }
 {
     if slot {
-        buffers / 0x8000_0000 % 2 == 1
+        bit(buffers, 31)
     } else {
-        buffers / 0x8000 % 2 == 1
+        bit(buffers, 15)
     }
 }
 

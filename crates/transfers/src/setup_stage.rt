@@ -14,11 +14,12 @@ use crate::progress::wait;
 use crate::sample::Found;
 ghost use mathlib.Core.Path.{_≡_};
 ghost use lib.Dec.{ltb};
-ghost use Prim.Native.Nat.{_+_, _≤_, _<_};
+ghost use Prim.Native.Nat.{_≤_, _<_};
 ghost use lib.ListN.{length};
 ghost use Rattle.transfers.specs.State.{controlOf};
 ghost use Rattle.transfers.specs.Step.{setupDone, setupStep};
 ghost use Rattle.transfers.specs.Acts.{Moves};
+ghost use Rattle.transfers.specs.Memory.{LogFits, MemoryFits};
 
 fn control_of(kind: Kind) -> Control
     ensures { λ r. ⌜ r ≡ controlOf kind ⌝ }
@@ -42,7 +43,7 @@ fn setup_done(
     log: &mut [u32],
     k: usize,
 ) -> Progress
-    requires { ⌜ (x .length ≡ length (now buf)) × (length (now pm) ≡ 4096) × (k ≤ 20) × (192 ≤ length (now log)) ⌝ }
+    requires { ⌜ (x .length ≡ length (now buf)) × MemoryFits (now pm) × (k ≤ 20) × LogFits (now log) ⌝ }
     ensures { λ r. ⌜ Moves (setupDone phase (ltb (x .length) n) x n (now (buf .entry)) (now (pm .entry))) (now (log .entry)) k r (now (pm .exit)) (now (log .exit)) ⌝ }
 {
     match phase {
@@ -70,7 +71,7 @@ pub(crate) fn setup_step(
     log: &mut [u32],
     k: usize,
 ) -> Progress
-    requires { ⌜ (x .length ≡ length (now buf)) × (length (now pm) ≡ 4096) × (k ≤ 20) × (192 ≤ length (now log)) ⌝ }
+    requires { ⌜ (x .length ≡ length (now buf)) × MemoryFits (now pm) × (k ≤ 20) × LogFits (now log) ⌝ }
     ensures { λ r. ⌜ Moves (setupStep found x (now (buf .entry)) (now (pm .entry))) (now (log .entry)) k r (now (pm .exit)) (now (log .exit)) ⌝ }
 {
     match found {

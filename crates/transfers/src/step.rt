@@ -30,7 +30,7 @@ use crate::state::serves;
 ghost use mathlib.Core.Path.{_≡_};
 ghost use mathlib.Core.Bool.{true, false};
 ghost use mathlib.Core.List.{List, [], _∷_};
-ghost use Prim.Native.Nat.{ℕ, _+_, _≤_, _<_};
+ghost use Prim.Native.Nat.{ℕ, _+_, _≤_};
 ghost use lib.ListN.{length};
 ghost use Rattle.transfers.specs.Answers.{nothingArmed};
 ghost use Rattle.transfers.specs.Writes.{awaits};
@@ -39,6 +39,7 @@ ghost use Rattle.transfers.specs.Step.{lent, keeping, inStep, outStep, s
 ghost use Rattle.transfers.specs.Calls.{heldToggle, refuses, mayStep, stepOf};
 ghost use Rattle.transfers.specs.Ready.{Within, InIsStatus};
 ghost use Rattle.transfers.specs.Acts.{told, Tells, Moves, Acts};
+ghost use Rattle.transfers.specs.Memory.{LogFits, MemoryFits};
 
 // A status stage IN: the Rust's `&mut []`.
 fn status_in(
@@ -50,7 +51,7 @@ fn status_in(
     log: &mut [u32],
     k: usize,
 ) -> Progress
-    requires { ⌜ (st .offset + st .remain ≤ 0) × (length (now pm) ≡ 4096) × (k ≤ 20) × (192 ≤ length (now log)) ⌝ }
+    requires { ⌜ (st .offset + st .remain ≤ 0) × MemoryFits (now pm) × (k ≤ 20) × LogFits (now log) ⌝ }
     ensures { λ r. ⌜ ((b : List ℕ) → Moves (keeping true b (inStep found x st buffers [] (now (pm .entry)))) (now (log .entry)) k r (now (pm .exit)) (now (log .exit))) ⌝ }
 {
     let mut none = [0u8; 0];
@@ -67,7 +68,7 @@ fn status_out(
     log: &mut [u32],
     k: usize,
 ) -> Progress
-    requires { ⌜ (st .offset + st .remain ≤ 0) × (length (now pm) ≡ 4096) × (k ≤ 20) × (192 ≤ length (now log)) ⌝ }
+    requires { ⌜ (st .offset + st .remain ≤ 0) × MemoryFits (now pm) × (k ≤ 20) × LogFits (now log) ⌝ }
     ensures { λ r. ⌜ ((b : List ℕ) → Moves (keeping true b (outStep found x st buffers [] (now (pm .entry)))) (now (log .entry)) k r (now (pm .exit)) (now (log .exit))) ⌝ }
 {
     let none = [0u8; 0];
@@ -84,7 +85,7 @@ fn fill_step(
     log: &mut [u32],
     k: usize,
 ) -> Progress
-    requires { ⌜ (st .offset + st .remain ≤ length (lent (st .status) (now buf))) × (length (now pm) ≡ 4096) × (k ≤ 20) × (192 ≤ length (now log)) ⌝ }
+    requires { ⌜ (st .offset + st .remain ≤ length (lent (st .status) (now buf))) × MemoryFits (now pm) × (k ≤ 20) × LogFits (now log) ⌝ }
     ensures { λ r. ⌜ Acts (keeping (st .status) (now (buf .entry)) (inStep found x st buffers (lent (st .status) (now (buf .entry))) (now (pm .entry)))) (now (log .entry)) k r (now (pm .exit)) (now (buf .exit)) (now (log .exit)) ⌝ }
 {
     if st.status {
@@ -103,7 +104,7 @@ fn send_step(
     log: &mut [u32],
     k: usize,
 ) -> Progress
-    requires { ⌜ (st .offset + st .remain ≤ length (lent (st .status) (now buf))) × (length (now pm) ≡ 4096) × (k ≤ 20) × (192 ≤ length (now log)) ⌝ }
+    requires { ⌜ (st .offset + st .remain ≤ length (lent (st .status) (now buf))) × MemoryFits (now pm) × (k ≤ 20) × LogFits (now log) ⌝ }
     ensures { λ r. ⌜ Moves (keeping (st .status) (now (buf .entry)) (outStep found x st buffers (lent (st .status) (now (buf .entry))) (now (pm .entry)))) (now (log .entry)) k r (now (pm .exit)) (now (log .exit)) ⌝ }
 {
     if st.status {
@@ -122,7 +123,7 @@ fn stage_in(
     log: &mut [u32],
     k: usize,
 ) -> Progress
-    requires { ⌜ (x .length ≡ length (now buf)) × Within stage (now buf) × (length (now pm) ≡ 4096) × (k ≤ 20) × (192 ≤ length (now log)) ⌝ }
+    requires { ⌜ (x .length ≡ length (now buf)) × Within stage (now buf) × MemoryFits (now pm) × (k ≤ 20) × LogFits (now log) ⌝ }
     ensures { λ r. ⌜ Acts (stageStep found x stage buffers (now (buf .entry)) (now (pm .entry))) (now (log .entry)) k r (now (pm .exit)) (now (buf .exit)) (now (log .exit)) ⌝ }
 {
     match stage {
@@ -142,7 +143,7 @@ fn stage_out(
     log: &mut [u32],
     k: usize,
 ) -> Progress
-    requires { ⌜ (x .length ≡ length (now buf)) × Within stage (now buf) × InIsStatus stage × (length (now pm) ≡ 4096) × (k ≤ 20) × (192 ≤ length (now log)) ⌝ }
+    requires { ⌜ (x .length ≡ length (now buf)) × Within stage (now buf) × InIsStatus stage × MemoryFits (now pm) × (k ≤ 20) × LogFits (now log) ⌝ }
     ensures { λ r. ⌜ Moves (stageStep found x stage buffers (now (buf .entry)) (now (pm .entry))) (now (log .entry)) k r (now (pm .exit)) (now (log .exit)) ⌝ }
 {
     match stage {
@@ -154,7 +155,7 @@ fn stage_out(
 
 // The poll is not ready: what it waits for is enabled.
 fn pending(x: Request, stage: Stage, log: &mut [u32], k: usize) -> Progress
-    requires { ⌜ (k ≤ 20) × (192 ≤ length (now log)) ⌝ }
+    requires { ⌜ (k ≤ 20) × LogFits (now log) ⌝ }
     ensures { λ r. ⌜ ((m b : List ℕ) → Tells (waits x stage false nothingArmed (awaits ∷ []) m b) (now (log .entry)) k r (now (log .exit))) ⌝ }
 {
     let k = put(log, k, INTE, WAITING_MASK, WAITING_MASK);
@@ -169,7 +170,7 @@ fn act_in(
     pm: &mut [u8],
     log: &mut [u32],
 ) -> Progress
-    requires { ⌜ (x .length ≡ length (now buf)) × Within stage (now buf) × (length (now pm) ≡ 4096) × (192 ≤ length (now log)) ⌝ }
+    requires { ⌜ (x .length ≡ length (now buf)) × Within stage (now buf) × MemoryFits (now pm) × LogFits (now log) ⌝ }
     ensures { λ r. ⌜ Acts (acts x stage s (now (buf .entry)) (now (pm .entry))) (now (log .entry)) 0 r (now (pm .exit)) (now (buf .exit)) (now (log .exit)) ⌝ }
 {
     let k = put(log, 0, SIE_STATUS, ALL, POLLED);
@@ -188,7 +189,7 @@ fn act_out(
     pm: &mut [u8],
     log: &mut [u32],
 ) -> Progress
-    requires { ⌜ (x .length ≡ length (now buf)) × Within stage (now buf) × InIsStatus stage × (length (now pm) ≡ 4096) × (192 ≤ length (now log)) ⌝ }
+    requires { ⌜ (x .length ≡ length (now buf)) × Within stage (now buf) × InIsStatus stage × MemoryFits (now pm) × LogFits (now log) ⌝ }
     ensures { λ r. ⌜ Moves (acts x stage s (now (buf .entry)) (now (pm .entry))) (now (log .entry)) 0 r (now (pm .exit)) (now (log .exit)) ⌝ }
 {
     let k = put(log, 0, SIE_STATUS, ALL, POLLED);

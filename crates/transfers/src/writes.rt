@@ -9,10 +9,10 @@ use cutting::packetiser::Arm;
 ghost use mathlib.Core.Path.{_≡_};
 ghost use mathlib.Core.List.{_++_};
 ghost use Prim.Native.Nat.{_+_, _≤_, _<_};
-ghost use lib.ListN.{length};
 ghost use Rattle.transfers.specs.Registers.{weigh, half};
 ghost use Rattle.transfers.specs.Log.{Wrote};
 ghost use Rattle.transfers.specs.Writes.{preamble, lowWord, highWord, setupWords, setupStart, epxValue, headWrites, armValue, armWrites, enableWrites, towards, goWrites, quiets};
+ghost use Rattle.transfers.specs.Memory.{LogFits};
 
 // Whom a stage talks to: device address, endpoint, packet size and first PID.
 pub struct Target {
@@ -59,10 +59,10 @@ pub(crate) fn preamble(x: TransferExtras) -> bool
 }
 
 fn put_setup_words(log: &mut [u32], s: SetupPacket) -> usize
-    requires { ⌜ 192 ≤ length (now log) ⌝ }
+    requires { ⌜ LogFits (now log) ⌝ }
     ensures { λ r. ⌜ Wrote (now (log .entry)) 0 (setupWords s) (now (log .exit)) r ⌝ }
 {
-    let k = put(log, 0, EPX_CONTROL, ALL, 0x180);
+    let k = put(log, 0, EPX_CONTROL, ALL, EPX_BUFFER);
     let k = put(log, k, EP_BUFFER_CONTROL, ALL, 0);
     let k = put(log, k, SETUP_PACKET_LOW, ALL, low_word(s));
     let k = put(log, k, SETUP_PACKET_HIGH, ALL, high_word(s));
@@ -70,18 +70,24 @@ fn put_setup_words(log: &mut [u32], s: SetupPacket) -> usize
 }
 
 fn put_setup_start(log: &mut [u32], k: usize, address: u8, x: TransferExtras) -> usize
-    requires { ⌜ (k ≤ 60) × (192 ≤ length (now log)) ⌝ }
+    requires { ⌜ (k ≤ 60) × LogFits (now log) ⌝ }
     ensures { λ r. ⌜ Wrote (now (log .entry)) k (setupStart address x) (now (log .exit)) r ⌝ }
 {
     let k = put(log, k, ADDR_ENDP, ALL, address as u32);
-    let k = put(log, k, SIE_CTRL, 0x4E, 2 + weight(preamble(x), 0x40));
+    let k = put(
+        log,
+        k,
+        SIE_CTRL,
+        SETUP_TRANSACTION,
+        SEND_SETUP + weight(preamble(x), PREAMBLE_EN),
+    );
     let k = put_delay(log, k);
-    put(log, k, SIE_CTRL, 1, 1)
+    put(log, k, SIE_CTRL, START_TRANS, START_TRANS)
 }
 
 // `send_setup` up to its first poll.
 pub(crate) fn put_setup(log: &mut [u32], address: u8, x: TransferExtras, s: SetupPacket) -> usize
-    requires { ⌜ 192 ≤ length (now log) ⌝ }
+    requires { ⌜ LogFits (now log) ⌝ }
     ensures { λ r. ⌜ Wrote (now (log .entry)) 0 (setupWords s ++ setupStart address x) (now (log .exit)) r ⌝ }
 {
     let k = put_setup_words(log, s);
@@ -91,12 +97,12 @@ pub(crate) fn put_setup(log: &mut [u32], address: u8, x: TransferExtras, s: Setu
 fn epx_value(t: Target, n: usize) -> u32
     ensures { λ r. ⌜ r ≡ epxValue t n ⌝ }
 {
-    0x8000_0180 + weight(t.size as usize <= n, 0x6000_0000) + weight(t.endpoint != 0, 0x0800_0000)
+    EPX_ENABLED + weight(t.size as usize <= n, BOTH_BUFFERS) + weight(t.endpoint != 0, TYPE_BULK)
 }
 
 // `control_transfer_inner` of n bytes, before its first packet.
 pub(crate) fn put_head(log: &mut [u32], k: usize, t: Target, n: usize) -> usize
-    requires { ⌜ (k ≤ 59) × (192 ≤ length (now log)) ⌝ }
+    requires { ⌜ (k ≤ 59) × LogFits (now log) ⌝ }
     ensures { λ r. ⌜ Wrote (now (log .entry)) k (headWrites t n) (now (log .exit)) r ⌝ }
 {
     let k = put(log, k, EPX_CONTROL, ALL, epx_value(t, n));
@@ -109,18 +115,18 @@ pub(crate) fn put_head(log: &mut [u32], k: usize, t: Target, n: usize) -> usize
         ALL,
         t.address as u32 + t.endpoint as u32 * 0x1_0000,
     );
-    put(log, k, NAK_POLL, ALL, 0x000A_0010)
+    put(log, k, NAK_POLL, ALL, NAK_DELAYS)
 }
 
 fn arm_value(full: bool, a: Arm) -> u32
     ensures { λ r. ⌜ (r ≡ armValue full a) × (r < 0x1_0000) ⌝ }
 {
-    a.length as u32 + weight(a.pid, 0x2000) + weight(a.last, 0x4000) + weight(full, 0x8000)
+    a.length as u32 + weight(a.pid, PID) + weight(a.last, LAST) + weight(full, FULL)
 }
 
 // `prepare`: a slot is armed.
 pub(crate) fn put_arm(log: &mut [u32], k: usize, full: bool, a: Arm) -> usize
-    requires { ⌜ (k ≤ 61) × (192 ≤ length (now log)) ⌝ }
+    requires { ⌜ (k ≤ 61) × LogFits (now log) ⌝ }
     ensures { λ r. ⌜ Wrote (now (log .entry)) k (armWrites full a) (now (log .exit)) r ⌝ }
 {
     let v = arm_value(full, a);
@@ -128,7 +134,7 @@ pub(crate) fn put_arm(log: &mut [u32], k: usize, full: bool, a: Arm) -> usize
         log,
         k,
         EP_BUFFER_CONTROL,
-        in_half(a.slot, 0xE3FF),
+        in_half(a.slot, PACKET),
         in_half(a.slot, v),
     );
     let k = put_delay(log, k);
@@ -136,18 +142,18 @@ pub(crate) fn put_arm(log: &mut [u32], k: usize, full: bool, a: Arm) -> usize
         log,
         k,
         EP_BUFFER_CONTROL,
-        in_half(a.slot, 0x400),
-        in_half(a.slot, 0x400),
+        in_half(a.slot, AVAILABLE),
+        in_half(a.slot, AVAILABLE),
     )
 }
 
 pub(crate) fn put_enable(log: &mut [u32], k: usize, size: u8, n: usize) -> usize
-    requires { ⌜ (k ≤ 61) × (192 ≤ length (now log)) ⌝ }
+    requires { ⌜ (k ≤ 61) × LogFits (now log) ⌝ }
     ensures { λ r. ⌜ Wrote (now (log .entry)) k (enableWrites size n) (now (log .exit)) r ⌝ }
 {
     let m = ENDING_MASK + weight(2 * (size as usize) <= n, BUFF_STATUS_MASK);
-    let k = put(log, k, SIE_STATUS, ALL, 0xFF00_0000);
-    let k = put(log, k, BUFF_STATUS, ALL, 3);
+    let k = put(log, k, SIE_STATUS, ALL, RESULTS);
+    let k = put(log, k, BUFF_STATUS, ALL, EPX_BUFFERS);
     put(log, k, INTE, m, m)
 }
 
@@ -155,25 +161,25 @@ fn towards_value(d: Direction) -> u32
     ensures { λ r. ⌜ r ≡ towards d ⌝ }
 {
     match d {
-        Direction::In => 8,
-        Direction::Out => 4,
+        Direction::In => RECEIVE_DATA,
+        Direction::Out => SEND_DATA,
     }
 }
 
 // The transaction is started.
 pub(crate) fn put_go(log: &mut [u32], k: usize, d: Direction) -> usize
-    requires { ⌜ (k ≤ 61) × (192 ≤ length (now log)) ⌝ }
+    requires { ⌜ (k ≤ 61) × LogFits (now log) ⌝ }
     ensures { λ r. ⌜ Wrote (now (log .entry)) k (goWrites d) (now (log .exit)) r ⌝ }
 {
-    let k = put(log, k, SIE_CTRL, 0xE, towards_value(d));
+    let k = put(log, k, SIE_CTRL, TRANSACTION, towards_value(d));
     let k = put_delay(log, k);
-    put(log, k, SIE_CTRL, 1, 1)
+    put(log, k, SIE_CTRL, START_TRANS, START_TRANS)
 }
 
 pub(crate) fn put_quiets(log: &mut [u32], k: usize) -> usize
-    requires { ⌜ (k ≤ 62) × (192 ≤ length (now log)) ⌝ }
+    requires { ⌜ (k ≤ 62) × LogFits (now log) ⌝ }
     ensures { λ r. ⌜ Wrote (now (log .entry)) k quiets (now (log .exit)) r ⌝ }
 {
-    let k = put(log, k, BUFF_STATUS, ALL, 3);
+    let k = put(log, k, BUFF_STATUS, ALL, EPX_BUFFERS);
     put(log, k, INTE, ENDING_MASK, 0)
 }

@@ -44,6 +44,7 @@ use denote.Triple.Clauses.{ensured, lasts}
 use Rattle.transfers.specs.Arming.{outArm}
 use Rattle.transfers.specs.Arms.{ArmsOut}
 use Rattle.transfers.specs.declared.arming.OutArmed.{OutArmed}
+use Rattle.transfers.specs.Memory.{MemoryFits, LogFits}
 use Rattle.cutting.specs.declared.packetiser.OutPacketiser.{OutPacketiser}
 use Rattle.cutting.proofs.packetiser.OutCounters as K
 use Rattle.cutting.proofs.packetiser.OutCounters.Laws as K′
@@ -80,7 +81,7 @@ module _ {M : Type 1} (𝓤 : URA M) (H : Heap 𝓤) (A : Atoms 𝓤) (mem : Mem
 
 -- what the contract requires, and what it ensures of the result and the last lists
 abbrev Asked : OutPacketiser → List ℕ → List ℕ → ℕ → Type 0
-Asked d m l k = (d .counters .offset + d .counters .remain ≤ length (d .buf .now)) × (length m ≡ 4096) × (k ≤ 61) × (192 ≤ length l)
+Asked d m l k = (d .counters .offset + d .counters .remain ≤ length (d .buf .now)) × MemoryFits m × (k ≤ 61) × LogFits l
 
 abbrev Told : ℕ → OutPacketiser → ℕ → List ℕ → List ℕ → ℕ → OutArmed → List ℕ → List ℕ → Type 0
 Told w d i m l k r m′ l′ = ArmsOut (outArm w (d .counters) i (d .buf .now) m) l k r m′ l′

@@ -20,17 +20,21 @@ returns c =
     let e = sym (c .before .before .index-open .ensures) ∙ c .enum-told .given .1 in
     simp e
 
+pool-of-requires : tie.Need-pool-of-requires
+pool-of-requires c κs = search needs
+
 free-requires : tie.Need-free-requires
 free-requires c κs = search needs
 
 returns-2 : tie.Need-returns-2
 unfolding closingPipe
 returns-2 c =
-    let d = c .before .before .before in
+    let f = c .before .before in
+    let d = f .before .before .before in
     let e = sym (d .before .before .index-open .ensures) ∙ d .index .given .1 in
-    simp (e, c .before .free .ensures)
+    simp (e, f .free .ensures, f .before .pool-of .ensures)
 
 pub close-pipe-spec : {M : Type 1} → statement M
 close-pipe-spec =
     tie.close
-    (tie.spec index-open-requires enum-known-index enum-told returns free-requires returns-2)
+    (tie.spec index-open-requires enum-known-index enum-told returns pool-of-requires free-requires returns-2)

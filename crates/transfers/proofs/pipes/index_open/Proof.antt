@@ -24,13 +24,13 @@ contains-requires c κs = search needs
 returns-2 : tie.Need-returns-2
 unfolding indexOpen
 returns-2 c =
-    let d = c .before .before .before .before in
+    let d = c .before .before .before in
     simp (sym (d .before .before .index .ensures) ∙ d .index2 .given .1, sym (c .before .contains .ensures) ∙ c .if1 .taken)
 
 returns-3 : tie.Need-returns-3
 unfolding indexOpen
 returns-3 c =
-    let d = c .before .before .before .before in
+    let d = c .before .before .before in
     simp (sym (d .before .before .index .ensures) ∙ d .index2 .given .1, sym (c .before .contains .ensures) ∙ c .if1 .left)
 
 pub index-open-spec : {M : Type 1} → statement M

@@ -2,7 +2,7 @@
 use denote.Ref.{now}
 use mathlib.Core.Path.{refl, sym, _∙_}
 use native.Mathlib.Omega.{arith}
-use borrow.Author.Tests.{eq-eqb, ne-eqb, not-true, not-false}
+use borrow.Author.Tests.{not-true, not-false}
 use Rattle.transfers.specs.Pipes.{pollingPipe}
 use Rattle.transfers.proofs.OpenPipes.{refused-poll, lent-sizes, open-some}
 use borrow.Author.Needs.{needs}
@@ -47,6 +47,9 @@ returns-2 c =
     let e = sym (d .index-open .ensures) ∙ c .before .enum-told .given .1 in
     simp (u, e) (refused-poll _ _ _ _ (c .refuse-poll2 .ensures))
 
+bit-requires : tie.Need-bit-requires
+bit-requires c κs = search needs
+
 poll-full-requires : tie.Need-poll-full-requires
 poll-full-requires c κs =
     let i = c .before .before .before .before in
@@ -66,7 +69,7 @@ returns-3 c =
     let d = i .before .before in
     let u = sym (d .before .before .before .lent-fits .ensures) ∙ not-false _ (d .before .before .if1 .left) in
     let e = sym (d .index-open .ensures) ∙ i .index .given .1 in
-    simp (u, e, eq-eqb _ _ (f .if2 .taken)) (c .before .before .poll-full .ensures)
+    simp (u, e, sym (f .before .bit .ensures) ∙ f .if2 .taken) (c .before .before .poll-full .ensures)
 
 cast-put-wait : tie.Need-cast-put-wait
 cast-put-wait c = search needs
@@ -95,7 +98,7 @@ returns-4 c =
     let d = i .before .before in
     let u = sym (d .before .before .before .lent-fits .ensures) ∙ not-false _ (d .before .before .if1 .left) in
     let e = sym (d .index-open .ensures) ∙ i .index .given .1 in
-    simp (u, e, ne-eqb _ _ (f .if2 .left)) (record { next = refl; answer = refl; packet = c .no-packet .ensures; log = w .put-wait .ensures })
+    simp (u, e, sym (f .before .bit .ensures) ∙ f .if2 .left) (record { next = refl; answer = refl; packet = c .no-packet .ensures; log = w .put-wait .ensures })
 
 pub poll-pipe-spec : {M : Type 1} → statement M
 poll-pipe-spec =
@@ -111,6 +114,7 @@ poll-pipe-spec =
     refuse-poll-requires-2
     same-length-2
     returns-2
+    bit-requires
     poll-full-requires
     same-length-3
     returns-3

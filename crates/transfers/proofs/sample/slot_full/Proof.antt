@@ -1,12 +1,19 @@
 -- `slot_full` is `full`. Assumes nothing.
+use borrow.Author.Needs.{needs}
 use Rattle.transfers.proofs.sample.slot_full.Statement.{statement}
 use Rattle.transfers.proofs.sample.slot_full.Tie as tie
 
+bit-requires : tie.Need-bit-requires
+bit-requires c κs = search needs
+
 returns : tie.Need-returns
-returns c = simp (c .if1 .taken)
+returns c = simp (c .before .if1 .taken, c .bit .ensures)
+
+bit-requires-2 : tie.Need-bit-requires-2
+bit-requires-2 c κs = search needs
 
 returns-2 : tie.Need-returns-2
-returns-2 c = simp (c .if1 .left)
+returns-2 c = simp (c .before .if1 .left, c .bit2 .ensures)
 
 pub slot-full-spec : {M : Type 1} → statement M
-slot-full-spec = tie.close (tie.spec returns returns-2)
+slot-full-spec = tie.close (tie.spec bit-requires bit-requires-2 returns returns-2)

@@ -1,4 +1,8 @@
 -- `Driver::begin_bulk_out` lifts the transfer's begin. Assumes nothing.
+use mathlib.Core.Path.{ap, _∙_}
+use Rattle.transfers.specs.declared.begin.Beginning.{Beginning}
+use Rattle.transfers.specs.Reply.{beginReply}
+use Rattle.transfers.proofs.Replies.{bulk-out-row}
 use borrow.Author.Needs.{needs}
 use Rattle.transfers.proofs.driver.Driver.begin_bulk_out.Statement.{statement}
 use Rattle.transfers.proofs.driver.Driver.begin_bulk_out.Tie as tie
@@ -19,7 +23,7 @@ same-length-2 : tie.Need-same-length-2
 same-length-2 c = search needs
 
 returns : tie.Need-returns
-returns c = let b = (c .before .before .before .before .before .before .before .begin-bulk-out) .ensures in record { result = simp ((c .with-transfer) .ensures, (c .before .entries-begun) .ensures, b .result); memory = b .memory; log = b .log }
+returns c = let b = (c .before .before .before .before .before .before .before .begin-bulk-out) .ensures in (record { result = simp ((c .with-transfer) .ensures, (c .before .entries-begun) .ensures, b .result); memory = b .memory; log = b .log }, ap (λ (q : Beginning). beginReply (q .answer)) (b .result) ∙ bulk-out-row _ _ _ _ _ _ _ _ _)
 
 pub begin-bulk-out-spec : {M : Type 1} → statement M
 begin-bulk-out-spec =

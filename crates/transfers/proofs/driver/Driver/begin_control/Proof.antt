@@ -1,4 +1,8 @@
 -- `Driver::begin_control` lifts the transfer's begin. Assumes nothing.
+use mathlib.Core.Path.{ap, _∙_}
+use Rattle.transfers.specs.declared.begin.Beginning.{Beginning}
+use Rattle.transfers.specs.Reply.{beginReply}
+use Rattle.transfers.proofs.Replies.{control-row}
 use borrow.Author.Needs.{needs}
 use Rattle.transfers.proofs.driver.Driver.begin_control.Statement.{statement}
 use Rattle.transfers.proofs.driver.Driver.begin_control.Tie as tie
@@ -16,7 +20,7 @@ same-length : tie.Need-same-length
 same-length c = search needs
 
 returns : tie.Need-returns
-returns c = let b = (c .before .before .before .before .before .begin-control) .ensures in record { result = simp ((c .with-transfer) .ensures, (c .before .entries-begun) .ensures, b .result); memory = b .memory; log = b .log }
+returns c = let b = (c .before .before .before .before .before .begin-control) .ensures in (record { result = simp ((c .with-transfer) .ensures, (c .before .entries-begun) .ensures, b .result); memory = b .memory; log = b .log }, ap (λ (q : Beginning). beginReply (q .answer)) (b .result) ∙ control-row _ _ _ _ _ _ _ _ _)
 
 pub begin-control-spec : {M : Type 1} → statement M
 begin-control-spec =

@@ -1,4 +1,8 @@
 -- `Driver::cancel` lifts the transfer's cancel. Assumes nothing.
+use mathlib.Core.Path.{ap, _∙_}
+use Rattle.transfers.specs.declared.begin.Cancelled.{Cancelled}
+use Rattle.transfers.specs.Reply.{cancelReply}
+use Rattle.transfers.proofs.Replies.{cancel-row}
 use borrow.Author.Needs.{needs}
 use Rattle.transfers.proofs.driver.Driver.cancel.Statement.{statement}
 use Rattle.transfers.proofs.driver.Driver.cancel.Tie as tie
@@ -16,7 +20,9 @@ with-transfer-requires : tie.Need-with-transfer-requires
 with-transfer-requires c κs = search needs
 
 returns : tie.Need-returns
-returns c = simp ((c .with-transfer) .ensures, (c .before .entries-cancelled) .ensures, (c .before .before .failed-cancel) .ensures, (c .before .before .before .cancel) .ensures)
+returns c =
+    let e = c .before .before .before .cancel .ensures in
+    (simp (c .with-transfer .ensures, c .before .entries-cancelled .ensures, c .before .before .failed-cancel .ensures, e), ap (λ (q : Cancelled). cancelReply (q .answer)) e ∙ cancel-row _)
 
 pub cancel-spec : {M : Type 1} → statement M
 cancel-spec = tie.close (tie.spec cancel-requires failed-cancel-requires entries-cancelled-requires with-transfer-requires returns)

@@ -1,8 +1,12 @@
 -- `Driver::step_in` lifts the transfer's step. Assumes nothing.
-use mathlib.Core.Bool.{true, false}
+use mathlib.Core.Bool.{true}
+use mathlib.Core.Path.{ap, _∙_}
 use denote.Ref.{now}
+use Rattle.transfers.specs.declared.progress.Progress.{Progress}
 use Rattle.transfers.specs.Calls.{stepOf}
+use Rattle.transfers.specs.Reply.{stepReply}
 use Rattle.transfers.proofs.Telling.{lifted}
+use Rattle.transfers.proofs.Replies.{step-row}
 use borrow.Author.Needs.{needs}
 use Rattle.transfers.proofs.driver.Driver.step_in.Statement.{statement}
 use Rattle.transfers.proofs.driver.Driver.step_in.Tie as tie
@@ -29,7 +33,7 @@ same-length-3 : tie.Need-same-length-3
 same-length-3 c = search needs
 
 returns : tie.Need-returns
-returns c = let a = c .before .before .before .before .before .before .before .before .before .before .before .before .before .before .before .before .before .args in let p = (c .before .before .before .before .before .before .before .before .before .before .step-in) .ensures in (record { result = lifted (a .self) (stepOf true (a .self .transfer) (a .sample) (now (a .buf)) (now (a .pm)) (now (a .log))) _ _ _ _ (p .tells .result) ((c .with-transfer) .ensures) ((c .before .entries-stepped) .ensures) ((c .before .before .failed-step) .ensures); memory = p .memory; log = p .tells .log }, p .buffer)
+returns c = let a = c .before .before .before .before .before .before .before .before .before .before .before .before .before .before .before .before .before .args in let p = (c .before .before .before .before .before .before .before .before .before .before .step-in) .ensures in (record { result = lifted (a .self) (stepOf true (a .self .transfer) (a .sample) (now (a .buf)) (now (a .pm)) (now (a .log))) _ _ _ _ (p .tells .result) ((c .with-transfer) .ensures) ((c .before .entries-stepped) .ensures) ((c .before .before .failed-step) .ensures); memory = p .memory; log = p .tells .log }, p .buffer, ap (λ (q : Progress). stepReply (q .answer)) (p .tells .result) ∙ step-row true (a .self .transfer) (a .sample) (now (a .buf)) (now (a .pm)) (now (a .log)))
 
 pub step-in-spec : {M : Type 1} → statement M
 step-in-spec =

@@ -1,8 +1,12 @@
 -- `Driver::step_out` lifts the transfer's step. Assumes nothing.
-use mathlib.Core.Bool.{true, false}
+use mathlib.Core.Bool.{false}
+use mathlib.Core.Path.{ap, _∙_}
 use denote.Ref.{now}
+use Rattle.transfers.specs.declared.progress.Progress.{Progress}
 use Rattle.transfers.specs.Calls.{stepOf}
+use Rattle.transfers.specs.Reply.{stepReply}
 use Rattle.transfers.proofs.Telling.{lifted}
+use Rattle.transfers.proofs.Replies.{step-row}
 use borrow.Author.Needs.{needs}
 use Rattle.transfers.proofs.driver.Driver.step_out.Statement.{statement}
 use Rattle.transfers.proofs.driver.Driver.step_out.Tie as tie
@@ -26,7 +30,7 @@ same-length-2 : tie.Need-same-length-2
 same-length-2 c = search needs
 
 returns : tie.Need-returns
-returns c = let a = c .before .before .before .before .before .before .before .before .before .before .before .before .before .before .args in let p = (c .before .before .before .before .before .before .before .before .step-out) .ensures in record { result = lifted (a .self) (stepOf false (a .self .transfer) (a .sample) (now (a .buf)) (now (a .pm)) (now (a .log))) _ _ _ _ (p .tells .result) ((c .with-transfer) .ensures) ((c .before .entries-stepped) .ensures) ((c .before .before .failed-step) .ensures); memory = p .memory; log = p .tells .log }
+returns c = let a = c .before .before .before .before .before .before .before .before .before .before .before .before .before .before .args in let p = (c .before .before .before .before .before .before .before .before .step-out) .ensures in (record { result = lifted (a .self) (stepOf false (a .self .transfer) (a .sample) (now (a .buf)) (now (a .pm)) (now (a .log))) _ _ _ _ (p .tells .result) ((c .with-transfer) .ensures) ((c .before .entries-stepped) .ensures) ((c .before .before .failed-step) .ensures); memory = p .memory; log = p .tells .log }, ap (λ (q : Progress). stepReply (q .answer)) (p .tells .result) ∙ step-row false (a .self .transfer) (a .sample) (now (a .buf)) (now (a .pm)) (now (a .log)))
 
 pub step-out-spec : {M : Type 1} → statement M
 step-out-spec =
