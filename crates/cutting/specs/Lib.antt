@@ -1,4 +1,5 @@
 pub mod Cut
+pub mod Rules
 pub mod Counters
 pub mod Left
 pub mod Retire

@@ -1,6 +1,6 @@
-// The counters of `InDepacketiser` and `OutDepacketiser`, by value.
+// The counters of `InDepacketiser`, by value.
 ghost use mathlib.Core.Path.{_≡_};
-ghost use Rattle.cutting.specs.Retire.{keptOf, inBegin, inRetire, outBegin, outRetire};
+ghost use Rattle.cutting.specs.Retire.{keptOf, inRetire};
 
 // `next_retire` (always equal to `packet_parity`), `remain` and `offset` of the Rust.
 pub struct InDepacketiser {
@@ -15,21 +15,7 @@ pub struct InRetired {
     pub rest: InDepacketiser,
 }
 
-pub struct OutDepacketiser {
-    pub parity: bool,
-}
-
 impl InDepacketiser {
-    pub fn new(length: u16) -> InDepacketiser
-        ensures { λ r. ⌜ r ≡ inBegin length ⌝ }
-    {
-        InDepacketiser {
-            parity: false,
-            remain: length,
-            offset: 0,
-        }
-    }
-
     // A packet of `length` bytes is retired: as many of them are kept as there is room for.
     // Counters that no start makes, with offset and rest above 65,535, keep none.
     pub fn retire(self, length: u16) -> InRetired
@@ -43,22 +29,6 @@ impl InDepacketiser {
                 remain: self.remain - n,
                 offset: self.offset + n,
             },
-        }
-    }
-}
-
-impl OutDepacketiser {
-    pub fn new() -> OutDepacketiser
-        ensures { λ r. ⌜ r ≡ outBegin ⌝ }
-    {
-        OutDepacketiser { parity: false }
-    }
-
-    pub fn retire(self) -> OutDepacketiser
-        ensures { λ r. ⌜ r ≡ outRetire self ⌝ }
-    {
-        OutDepacketiser {
-            parity: !self.parity,
         }
     }
 }

@@ -1,0 +1,9 @@
+-- What a reader has to believe, in reading order.
+pub mod Fields
+pub mod Datasheet
+pub mod Received
+pub mod Armed
+pub mod Writes
+pub mod PacketRules
+-- A reading aid: one transfer, computed.
+pub mod Example
