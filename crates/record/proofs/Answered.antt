@@ -34,7 +34,8 @@ use Rattle.transfers.specs.declared.driver.Stage.the-variants.{Setup as setupSt
 use Rattle.transfers.specs.declared.driver.InStage.{InStage}
 use Rattle.transfers.specs.declared.driver.OutStage.{OutStage}
 use Rattle.transfers.specs.Log.{Write}
-use Rattle.transfers.specs.Memory.{slotAddress, lentFits}
+use Rattle.transfers.specs.Memory.{lentFits}
+use Rattle.record.specs.Chip.{slotPlace}
 use Rattle.transfers.specs.Registers.{addrEndp}
 use Rattle.transfers.specs.Sample.{classify}
 use Rattle.transfers.specs.Writes.{enableWrites, polled, awaits, quiets}
@@ -52,7 +53,7 @@ use Rattle.transfers.proofs.Apart.{open-apart, poll-apart, irq-apart, detect-ap
 use Rattle.record.specs.Grammar.{out}
 use Rattle.record.specs.Wire.{File, performs, events, entryOf, wire}
 use Rattle.transfers.specs.Driver.{fresh}
-use Rattle.record.specs.Calls.{Begin, control, bulk, Call, begin, step, cancel, openPipe, closePipe, pollPipe, interrupt, detect, call, beginning}
+use Rattle.record.specs.Calls.{Begin, controlBegin, bulkBegin, Call, begin, step, cancel, openPipe, closePipe, pollPipe, interrupt, detect, call, beginning}
 use Rattle.record.specs.Armed.{entriesArmed}
 use Rattle.record.specs.Asked.{Typed, AllTyped, TypedBegin}
 use Rattle.record.specs.Writer.{armedInRange}
@@ -115,11 +116,11 @@ arms-wire f ws m x y a b e s = ap (map (entryOf (performs f ws) m)) e ∙ by a b
   where
     by : (a b : OptionArm) → map (entryOf (performs f ws) m) (armEvents a ++ armEvents b) ≡ entriesArmed m (outsArmed x y a b)
     by noArm noArm = refl
-    by noArm (someArm b) = λ i. out (s .addr i) (s .endp i) (b .pid) (b .last) (take (b .length) (drop (slotAddress (b .slot)) m)) ∷ []
-    by (someArm a) noArm = λ i. out (s .addr i) (s .endp i) (a .pid) (a .last) (take (a .length) (drop (slotAddress (a .slot)) m)) ∷ []
+    by noArm (someArm b) = λ i. out (s .addr i) (s .endp i) (b .pid) (b .last) (take (b .length) (drop (slotPlace (b .slot)) m)) ∷ []
+    by (someArm a) noArm = λ i. out (s .addr i) (s .endp i) (a .pid) (a .last) (take (a .length) (drop (slotPlace (a .slot)) m)) ∷ []
     by (someArm a) (someArm b) = λ i.
-        out (s .addr i) (s .endp i) (a .pid) (a .last) (take (a .length) (drop (slotAddress (a .slot)) m))
-        ∷ out (s .addr i) (s .endp i) (b .pid) (b .last) (take (b .length) (drop (slotAddress (b .slot)) m)) ∷ []
+        out (s .addr i) (s .endp i) (a .pid) (a .last) (take (a .length) (drop (slotPlace (a .slot)) m))
+        ∷ out (s .addr i) (s .endp i) (b .pid) (b .last) (take (b .length) (drop (slotPlace (b .slot)) m)) ∷ []
 
 starts-out : (pre : List Write) (x : Request) (t : TransferType) (status : Bool) (received n : ℕ) (now m : List ℕ) (f : File) → Silent pre → Good x
     → Tells f (Busy (record { request = x; stage = outStage (startOut (targetOf x) t status received n now m .stage) })) (pre ++ startOut (targetOf x) t status received n now m .writes)
@@ -266,24 +267,24 @@ good-of x buf ck = record { addr = ck .addr; endp = endpoint-small x buf ck }
 
 tells-begin : (f : File) (t : Transfer) (x : Begin) (buf m log : List ℕ) → TypedBegin x → Known f t → Tells-begin f (beginning t x buf m log)
 unfolding beginControlOf beginBulkInOf beginBulkOutOf
-tells-begin f t (control a z p s ph) buf m log ty i =
+tells-begin f t (controlBegin a z p s ph) buf m log ty i =
     begins-or f t m (controlRefusal t a p m log) (beginsControl a z p s ph (length buf) m) i
     (λ q.
     let k = passed (lentFits m log) (isIdle t) (addressGood a) true (sizeGood p) true q in
     let ck = checked-control a z p s ph buf (k .address) (k .size) (ty .2) in
-    record { known = (good-of (control a z p s ph) buf ck, tt); is = setup-wire f a z s m (ck .addr) (ty .2); ranged = setup-ranged (record { address = a; setup = s }) (ck .addr) })
-tells-begin f t (bulk In a e p k b) buf m log ty i =
+    record { known = (good-of (controlBegin a z p s ph) buf ck, tt); is = setup-wire f a z s m (ck .addr) (ty .2); ranged = setup-ranged (record { address = a; setup = s }) (ck .addr) })
+tells-begin f t (bulkBegin In a e p k b) buf m log ty i =
     begins-or f t m (bulkRefusal t a e p buf m log) (beginsBulkIn (bulkRequest In a e p b (length buf)) k m) i
     (λ q.
     let j = passed (lentFits m log) (isIdle t) (addressGood a) (endpointGood e) (sizeGood p) (leb (length buf) 0xFFFF) q in
     let ck = checked-bulk In a e p k b buf (j .address) (j .endpoint) (j .size) (j .room) in
-    starts-in [] (bulkRequest In a e p b (length buf)) k false (length buf) m f silent-nil (good-of (bulk In a e p k b) buf ck))
-tells-begin f t (bulk Out a e p k b) buf m log ty i =
+    starts-in [] (bulkRequest In a e p b (length buf)) k false (length buf) m f silent-nil (good-of (bulkBegin In a e p k b) buf ck))
+tells-begin f t (bulkBegin Out a e p k b) buf m log ty i =
     begins-or f t m (bulkRefusal t a e p buf m log) (beginsBulkOut (bulkRequest Out a e p b (length buf)) e k buf m) i
     (λ q.
     let j = passed (lentFits m log) (isIdle t) (addressGood a) (endpointGood e) (sizeGood p) (leb (length buf) 0xFFFF) q in
     let ck = checked-bulk Out a e p k b buf (j .address) (j .endpoint) (j .size) (j .room) in
-    starts-out [] (bulkRequest Out a e p b (length buf)) k false 0 (length buf) buf m f silent-nil (good-of (bulk Out a e p k b) buf ck))
+    starts-out [] (bulkRequest Out a e p b (length buf)) k false 0 (length buf) buf m f silent-nil (good-of (bulkBegin Out a e p k b) buf ck))
 
 -- ---- every call and every list
 

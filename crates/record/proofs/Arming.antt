@@ -21,11 +21,12 @@ use Rattle.cutting.specs.Left.{OutLeft, stop, go, Ends}
 use Rattle.cutting.proofs.Next.{out-fits}
 use Rattle.transfers.specs.Registers.{addrEndp, field}
 use Rattle.transfers.specs.Memory.{slotAddress}
+use Rattle.record.specs.Chip.{slotPlace}
 use Rattle.transfers.specs.Arming.{mayArm, OutArming, outKept, outArmed, outArmIf, outArm, OutArmings, outArmTwo}
 use Rattle.record.specs.Grammar.{Entry, out}
 use Rattle.record.specs.Wire.{File, Event, outAt, entryOf}
 use Rattle.record.specs.Asked.{outEntry}
-use Rattle.record.specs.Told.{Watch, unarmed, armed, taken, marks}
+use Rattle.record.specs.Told.{Watch, notArmed, inSlot, taken, marks}
 use Rattle.record.proofs.Stages.{armEvents}
 use Rattle.record.proofs.Memory.{slot-same, slot-other, slot-room}
 
@@ -40,8 +41,8 @@ evOf (packet s b last l) = outAt s b last (length l)
 
 -- Once a marked packet is armed, nothing is left.
 abbrev pub Over : Watch → Packets → Type 0
-Over unarmed ks = Unit {0}
-Over (armed s) ks = ks ≡ []
+Over notArmed ks = Unit {0}
+Over (inSlot s) ks = ks ≡ []
 Over taken ks = ks ≡ []
 
 pub none-cons : {A : Type 0} (k : Packet (List ℕ)) (ks : Packets) → k ∷ ks ≡ [] → A
@@ -49,9 +50,9 @@ none-cons k ks e = absurd (let z : _≡_ {A = ℕ} 0 1 = cc in omega arith)
 
 pub over-marks : (new ks : Packets) (w : Watch) → Ends (new ++ ks) → Over w (new ++ ks) → Over (marks w (map evOf new)) ks
 over-marks [] ks w e o = o
-over-marks (packet s b true l ∷ new) ks w e o = over-marks new ks (armed s) (subst Ends (sym e) tt) e
-over-marks (packet s b false l ∷ new) ks unarmed e o = over-marks new ks unarmed e tt
-over-marks (packet s b false l ∷ new) ks (armed r) e o = none-cons (packet s b false l) (new ++ ks) o
+over-marks (packet s b true l ∷ new) ks w e o = over-marks new ks (inSlot s) (subst Ends (sym e) tt) e
+over-marks (packet s b false l ∷ new) ks notArmed e o = over-marks new ks notArmed e tt
+over-marks (packet s b false l ∷ new) ks (inSlot r) e o = none-cons (packet s b false l) (new ++ ks) o
 over-marks (packet s b false l ∷ new) ks taken e o = none-cons (packet s b false l) (new ++ ks) o
 
 pub ends-after : (new ks : Packets) → Ends (new ++ ks) → Ends ks
@@ -104,6 +105,33 @@ unfolding outArmTwo
 two-alike w c k buf m =
     let g = outArm w c k buf m in
     one-alike w c (g .packets) (g .inflight) buf (g .memory) (one-alike w c c k buf m (record { size = refl; pid = refl }))
+
+-- ---- where nothing is armed, what was lent doesn't matter
+
+one-none : (w : ℕ) (c : OutCounters) (k : ℕ) (u v m : List ℕ) → outArm w c k u m .arm ≡ None → outArm w c k u m ≡ outArm w c k v m
+unfolding outArm
+one-none w c k u v m = by (mayArm w k (c .slot)) (outNext c .arm)
+  where
+    said : (a : OptionArm) → outArmed a (outNext c .rest) k (c .offset) u m .arm ≡ None → outArmed a (outNext c .rest) k (c .offset) u m ≡ outArmed a (outNext c .rest) k (c .offset) v m
+    said None e = refl
+    said (Some a) e = no-arm a (sym e)
+
+    by : (b : Bool) (a : OptionArm) → outArmIf b c k u m .arm ≡ None → outArmIf b c k u m ≡ outArmIf b c k v m
+    by false a e = refl
+    by true a e = said (outNext c .arm) e
+
+abbrev thenArm : ℕ → List ℕ → OutArming → OutArmings
+thenArm w v g =
+    let h = outArm w (g .packets) (g .inflight) v (g .memory) in
+    record { packets = h .packets; inflight = h .inflight; writes = g .writes ++ h .writes; memory = h .memory; first = g .arm; second = h .arm }
+
+pub none-armed : (w : ℕ) (c : OutCounters) (k : ℕ) (u v m : List ℕ) → outArmTwo w c k u m .first ≡ None → outArmTwo w c k u m .second ≡ None
+    → outArmTwo w c k u m ≡ outArmTwo w c k v m
+unfolding outArmTwo
+none-armed w c k u v m p q =
+    let g = outArm w c k u m in
+    ap (λ (h : OutArming). record { packets = h .packets; inflight = h .inflight; writes = g .writes ++ h .writes; memory = h .memory; first = g .arm; second = h .arm }) (one-none w (g .packets) (g .inflight) u v (g .memory) q)
+    ∙ ap (thenArm w v) (one-none w c k u v m p)
 
 -- ---- what an arming of some of the packets left did
 
@@ -168,7 +196,7 @@ module _ (buf : List ℕ) where
 
   -- Its entry, where its slot still holds its bytes.
   entry-is : (c : OutCounters) (a : Arm) (m : List ℕ) (f : File) (x y : ℕ) → field 0 7 (f addrEndp) ≡ x → field 16 4 (f addrEndp) ≡ y
-      → take (length (part c a)) (drop (slotAddress (a .slot)) m) ≡ part c a → entryOf f m (evOf (made c a)) ≡ outEntry x y (made c a)
+      → take (length (part c a)) (drop (slotPlace (a .slot)) m) ≡ part c a → entryOf f m (evOf (made c a)) ≡ outEntry x y (made c a)
   entry-is c a m f x y p q r = λ i. out (p i) (q i) (a .pid) (a .last) (r i)
 
   none-two : (can : Bool) (c : OutCounters) (ks : Packets) (k : ℕ) (m : List ℕ) → (can ≡ true → ks ≡ []) → OutLeft buf c ks
@@ -194,10 +222,10 @@ module _ (buf : List ℕ) where
     c₁ = outNext c .rest
 
     -- The second goes into the other slot.
-    first-stays : (b : Arm) → Given c₁ b → take (length (part c a)) (drop (slotAddress (a .slot)) (sets m₁ (slotAddress (b .slot)) (part c₁ b))) ≡ part c a
+    first-stays : (b : Arm) → Given c₁ b → take (length (part c a)) (drop (slotPlace (a .slot)) (sets m₁ (slotAddress (b .slot)) (part c₁ b))) ≡ part c a
     first-stays b g =
         let e : b .slot ≡ not (a .slot) = out-fits c₁ b (g .is) .slot ∙ next-after c .some a (h .is) ∙ ap not (sym (out-fits c a (h .is) .slot)) in
-        ap (λ (s : Bool). take (length (part c a)) (drop (slotAddress (a .slot)) (sets m₁ (slotAddress s) (part c₁ b)))) e
+        ap (λ (s : Bool). take (length (part c a)) (drop (slotPlace (a .slot)) (sets m₁ (slotAddress s) (part c₁ b)))) e
         ∙ slot-other m₁ (slot-room m full (part c a) (part-small c a h) (a .slot)) (part c₁ b) (part-small c₁ b g) (a .slot) (length (part c a)) (part-small c a h)
         ∙ slot-same m full (part c a) (part-small c a h) (a .slot)
 

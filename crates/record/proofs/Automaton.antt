@@ -10,8 +10,7 @@ use lib.ListN.{length, length-append, replicate, length-replicate}
 use lib.Dec.{eqb, leb, ltb}
 use borrow.Author.Tests.{eqb-true, eqb-false, leb-true, leb-false, ltb-true, eq-eqb, ne-eqb, le-leb, lt-ltb}
 use Rattle.pool.proofs.Cases.{byCases}
-use Rattle.record.specs.Grammar.{Four, Entry, setup, out, lengthIn, Bytes, FourBytes, group, bytes, AllOf, Sizes, Sent, Part, bulk, control, sentEntries, SentFits, AllFit, written, PlainReading}
-use Rattle.record.specs.Grammar as G
+use Rattle.record.specs.Grammar.{Four, Entry, setup, out, wLengthIn, Bytes, FourBytes, group, groupBytes, AllOf, Sizes, Sent, Part, bulkPart, controlPart, sentEntries, SentFits, AllFit, partsEntries, PlainReading, four, noGroup, oneGroup}
 use Rattle.record.specs.Scan.{guard, bulkStart, controlStart, bulkNext, controlNext, feed, feedAll, starts, countAll, Ends, InRange, AllInRange}
 use Rattle.record.specs.declared.scan.Scan.{Scan}
 use Rattle.record.specs.declared.scan.Scan.the-variants.{Between as between, AfterSetup as afterSetup, InBulk as inBulk, InControl as inControl}
@@ -27,8 +26,8 @@ record BulkTail (a e : ℕ) (q : Bool) (p t : ℕ) (r : List Entry) : Type 0 whe
   after : List Entry
   full : AllOf p xs
   short : length l ≤ p
-  total : t + length (bytes xs l) ≤ 65535
-  are : Bytes (bytes xs l)
+  total : t + length (groupBytes xs l) ≤ 65535
+  are : Bytes (groupBytes xs l)
   rest : PlainReading after
   is : group a e q xs l ++ after ≡ r
 
@@ -39,25 +38,25 @@ record ControlTail (a : ℕ) (wl : ℕ) (q : Bool) (p t : ℕ) (r : List Entry) 
   full : AllOf p xs
   short : length l ≤ p
   some-last : 1 ≤ length l
-  total : t + length (bytes xs l) ≡ wl
-  are : Bytes (bytes xs l)
+  total : t + length (groupBytes xs l) ≡ wl
+  are : Bytes (groupBytes xs l)
   rest : PlainReading after
   is : group a 0 q xs l ++ after ≡ r
 
 -- What follows a SETUP of wLength wl.
 abbrev SentOf : ℕ → Sent → Type 0
-SentOf wl G.none = Unit {0}
-SentOf wl (G.some xs l) = ((xs ≡ []) × (l ≡ [])) ⊎ (Sizes xs l × (length (bytes xs l) ≡ wl) × (1 ≤ length l))
+SentOf wl noGroup = Unit {0}
+SentOf wl (oneGroup xs l) = ((xs ≡ []) × (l ≡ [])) ⊎ (Sizes xs l × (length (groupBytes xs l) ≡ wl) × (1 ≤ length l))
 
-to-fits : (hi : Four) (s : Sent) → SentOf (lengthIn hi) s → SentFits hi s
-to-fits hi G.none f = f
-to-fits hi (G.some xs l) (inl f) = inl f
-to-fits hi (G.some xs l) (inr f) = inr (f .0, omega (arith, f .1), f .2)
+to-fits : (hi : Four) (s : Sent) → SentOf (wLengthIn hi) s → SentFits hi s
+to-fits hi noGroup f = f
+to-fits hi (oneGroup xs l) (inl f) = inl f
+to-fits hi (oneGroup xs l) (inr f) = inr (f .0, omega (arith, f .1), f .2)
 
-of-fits : (hi : Four) (s : Sent) → SentFits hi s → SentOf (lengthIn hi) s
-of-fits hi G.none f = f
-of-fits hi (G.some xs l) (inl f) = inl f
-of-fits hi (G.some xs l) (inr f) = inr (f .0, omega (arith, f .1), f .2)
+of-fits : (hi : Four) (s : Sent) → SentFits hi s → SentOf (wLengthIn hi) s
+of-fits hi noGroup f = f
+of-fits hi (oneGroup xs l) (inl f) = inl f
+of-fits hi (oneGroup xs l) (inr f) = inr (f .0, omega (arith, f .1), f .2)
 
 record SetupTail (a : ℕ) (wl : ℕ) (r : List Entry) : Type 0 where
   s : Sent
@@ -115,23 +114,23 @@ beq-refl false = refl
 
 one-group : (a e : ℕ) (b : Bool) (l : List ℕ) (r : List Entry) → a ≤ 127 → 1 ≤ e → e ≤ 15 → length l ≤ 64 → Bytes l → PlainReading r → PlainReading (out a e b true l ∷ r)
 one-group a e b l r ha he hf hl hb k = record {
-  parts = bulk a e b [] l ∷ k .parts;
+  parts = bulkPart a e b [] l ∷ k .parts;
   fit = ((ha, he, hf, record { p = 64; low = omega arith; high = omega arith; full = tt; short = hl; total = omega arith; are = hb }), k .fit);
   is = ap (λ (s : List Entry). out a e b true l ∷ s) (k .is);
 }
 
 more-group : (a e : ℕ) (b : Bool) (x : List ℕ) (r : List Entry) → a ≤ 127 → 1 ≤ e → e ≤ 15 → 1 ≤ length x → length x ≤ 64 → Bytes x → BulkTail a e (not b) (length x) (length x) r → PlainReading (out a e b false x ∷ r)
 more-group a e b x r ha he hf lo hi hb k =
-    let n = length-append x (bytes (k .xs) (k .l)) in
+    let n = length-append x (groupBytes (k .xs) (k .l)) in
     record {
-      parts = bulk a e b (x ∷ k .xs) (k .l) ∷ k .rest .parts;
-      fit = ((ha, he, hf, record { p = length x; low = lo; high = hi; full = (refl, k .full); short = k .short; total = let t = k .total in omega arith; are = bytes-append x (bytes (k .xs) (k .l)) hb (k .are) }), k .rest .fit);
+      parts = bulkPart a e b (x ∷ k .xs) (k .l) ∷ k .rest .parts;
+      fit = ((ha, he, hf, record { p = length x; low = lo; high = hi; full = (refl, k .full); short = k .short; total = let t = k .total in omega arith; are = bytes-append x (groupBytes (k .xs) (k .l)) hb (k .are) }), k .rest .fit);
       is = ap (λ (s : List Entry). out a e b false x ∷ (group a e (not b) (k .xs) (k .l) ++ s)) (k .rest .is) ∙ ap (λ (s : List Entry). out a e b false x ∷ s) (k .is);
     }
 
-setup-part : (a : ℕ) (lo hi : Four) (r : List Entry) → a ≤ 127 → FourBytes lo → FourBytes hi → SetupTail a (lengthIn hi) r → PlainReading (setup a lo hi ∷ r)
+setup-part : (a : ℕ) (lo hi : Four) (r : List Entry) → a ≤ 127 → FourBytes lo → FourBytes hi → SetupTail a (wLengthIn hi) r → PlainReading (setup a lo hi ∷ r)
 setup-part a lo hi r ha hl hh k = record {
-  parts = control a lo hi (k .s) ∷ k .rest .parts;
+  parts = controlPart a lo hi (k .s) ∷ k .rest .parts;
   fit = ((ha, hl, hh, to-fits hi (k .s) (k .fits)), k .rest .fit);
   is = ap (λ (s : List Entry). setup a lo hi ∷ (sentEntries a (k .s) ++ s)) (k .rest .is) ∙ ap (λ (s : List Entry). setup a lo hi ∷ s) (k .is);
 }
@@ -148,7 +147,7 @@ bulk-start-sound a e b false l r s′ h q k =
     let g = guard-some (leb 1 e && leb 1 (length l)) (inBulk a e (not b) (length l) (length l)) s′ q in
     more-group a e b l r (h .0) (leb-true 1 e (and-left (leb 1 e) (leb 1 (length l)) (g .0))) (h .1) (leb-true 1 (length l) (and-right (leb 1 e) (leb 1 (length l)) (g .0))) (h .2) (h .3) (subst (λ (v : Scan). Lang v r) (sym (g .1)) k)
 
-one-fits : (wl : ℕ) (l : List ℕ) → length l ≤ 64 → Bytes l → (eqb (length l) 0 || eqb (length l) wl) ≡ true → SentOf wl (G.some [] l)
+one-fits : (wl : ℕ) (l : List ℕ) → length l ≤ 64 → Bytes l → (eqb (length l) 0 || eqb (length l) wl) ≡ true → SentOf wl (oneGroup [] l)
 one-fits wl l h hb e = byCases (eqb (length l) 0)
     (λ (q : eqb (length l) 0 ≡ true). inl (refl, nil-of l (eqb-true (length l) 0 q)))
     (λ (q : eqb (length l) 0 ≡ false).
@@ -169,7 +168,7 @@ control-start-sound a wl a′ b true l r s′ w h q k =
     let ea : a ≡ a′ = sym (eqb-true a′ a (and-left (eqb a′ a) (b && t₂) (g .0))) in
     let c = and-right (eqb a′ a) (b && t₂) (g .0) in
     let eb : true ≡ b = sym (and-left b t₂ c) in
-    record { s = G.some [] l; fits = one-fits wl l (h .2) (h .3) (and-right b t₂ c); after = r; rest = subst (λ (v : Scan). Lang v r) (sym (g .1)) k; is = λ i. out (ea i) 0 (eb i) true l ∷ r }
+    record { s = oneGroup [] l; fits = one-fits wl l (h .2) (h .3) (and-right b t₂ c); after = r; rest = subst (λ (v : Scan). Lang v r) (sym (g .1)) k; is = λ i. out (ea i) 0 (eb i) true l ∷ r }
 control-start-sound a wl a′ b false l r s′ w h q k =
     let n = length l in
     let t₂ = leb 1 n && ltb n wl in
@@ -179,10 +178,10 @@ control-start-sound a wl a′ b false l r s′ w h q k =
     let eb : true ≡ b = sym (and-left b t₂ c) in
     let lo : 1 ≤ n = leb-true 1 n (and-left (leb 1 n) (ltb n wl) (and-right b t₂ c)) in
     let u : ControlTail a wl false n n r = subst (λ (v : Scan). Lang v r) (sym (g .1)) k in
-    let m : length (l ++ bytes (u .xs) (u .l)) ≡ n + length (bytes (u .xs) (u .l)) = length-append l (bytes (u .xs) (u .l)) in
+    let m : length (l ++ groupBytes (u .xs) (u .l)) ≡ n + length (groupBytes (u .xs) (u .l)) = length-append l (groupBytes (u .xs) (u .l)) in
     record {
-      s = G.some (l ∷ u .xs) (u .l);
-      fits = inr (record { p = n; low = lo; high = h .2; full = (refl, u .full); short = u .short; total = let z = u .total in omega arith; are = bytes-append l (bytes (u .xs) (u .l)) (h .3) (u .are) }, m ∙ u .total, u .some-last);
+      s = oneGroup (l ∷ u .xs) (u .l);
+      fits = inr (record { p = n; low = lo; high = h .2; full = (refl, u .full); short = u .short; total = let z = u .total in omega arith; are = bytes-append l (groupBytes (u .xs) (u .l)) (h .3) (u .are) }, m ∙ u .total, u .some-last);
       after = u .after;
       rest = u .rest;
       is = (λ i. out (ea i) 0 (eb i) false l ∷ (group a 0 false (u .xs) (u .l) ++ u .after)) ∙ ap (λ (s : List Entry). out a′ 0 b false l ∷ s) (u .is);
@@ -225,7 +224,7 @@ bulk-next-sound a e q p t a′ e′ b false l r s′ h g k =
     let eb : q ≡ b = sym (beq-true b q (and-left (Bool·beq b q) t₄ c₃)) in
     let c₄ = and-right (Bool·beq b q) t₄ c₃ in
     let u : BulkTail a e (not q) p (t + n) r = subst (λ (v : Scan). Lang v r) (sym (j .1)) k in
-    let m = length-append l (bytes (u .xs) (u .l)) in
+    let m = length-append l (groupBytes (u .xs) (u .l)) in
     record {
       xs = l ∷ u .xs;
       l = u .l;
@@ -233,7 +232,7 @@ bulk-next-sound a e q p t a′ e′ b false l r s′ h g k =
       full = (eqb-true n p (and-left (eqb n p) (leb (t + n) 65535) c₄), u .full);
       short = u .short;
       total = let z = u .total in omega arith;
-      are = bytes-append l (bytes (u .xs) (u .l)) (h .3) (u .are);
+      are = bytes-append l (groupBytes (u .xs) (u .l)) (h .3) (u .are);
       rest = u .rest;
       is = (λ i. out (ea i) (ee i) (eb i) false l ∷ (group a e (not q) (u .xs) (u .l) ++ u .after)) ∙ ap (λ (s : List Entry). out a′ e′ b false l ∷ s) (u .is);
     }
@@ -278,7 +277,7 @@ control-next-sound a wl q p t a′ e′ b false l r s′ h g k =
     let eb : q ≡ b = sym (beq-true b q (and-left (Bool·beq b q) t₄ c₃)) in
     let c₄ = and-right (Bool·beq b q) t₄ c₃ in
     let u : ControlTail a wl (not q) p (t + n) r = subst (λ (v : Scan). Lang v r) (sym (j .1)) k in
-    let m = length-append l (bytes (u .xs) (u .l)) in
+    let m = length-append l (groupBytes (u .xs) (u .l)) in
     record {
       xs = l ∷ u .xs;
       l = u .l;
@@ -287,18 +286,18 @@ control-next-sound a wl q p t a′ e′ b false l r s′ h g k =
       short = u .short;
       some-last = u .some-last;
       total = let z = u .total in omega arith;
-      are = bytes-append l (bytes (u .xs) (u .l)) (h .3) (u .are);
+      are = bytes-append l (groupBytes (u .xs) (u .l)) (h .3) (u .are);
       rest = u .rest;
       is = (λ i. out (ea i) (ee i) (eb i) false l ∷ (group a 0 (not q) (u .xs) (u .l) ++ u .after)) ∙ ap (λ (s : List Entry). out a′ e′ b false l ∷ s) (u .is);
     }
 
 -- Nothing of the control comes first: the list begins another part.
 no-sent : (a : ℕ) (wl : ℕ) (r : List Entry) → PlainReading r → SetupTail a wl r
-no-sent a wl r k = record { s = G.none; fits = tt; after = r; rest = k; is = refl }
+no-sent a wl r k = record { s = noGroup; fits = tt; after = r; rest = k; is = refl }
 
 -- wLength of bytes.
-length-small : (hi : Four) → FourBytes hi → lengthIn hi ≤ 65535
-length-small (G.four a b c d) h = omega arith
+length-small : (hi : Four) → FourBytes hi → wLengthIn hi ≤ 65535
+length-small (four a b c d) h = omega arith
 
 abbrev Small : Scan → Type 0
 Small between = Unit {0}
@@ -307,9 +306,9 @@ Small (inBulk a e q p t) = Unit {0}
 Small (inControl a wl q p t) = Unit {0}
 
 sound : (s s′ : Scan) (e : Entry) (r : List Entry) → Small s → InRange e → feed s e ≡ some s′ → Lang s′ r → Lang s (e ∷ r)
-sound between s′ (setup a lo hi) r m h q k = setup-part a lo hi r (h .0) (h .1) (h .2) (subst (λ (v : Scan). Lang v r) (sym (let z : afterSetup a (lengthIn hi) ≡ s′ = cc in z)) k)
+sound between s′ (setup a lo hi) r m h q k = setup-part a lo hi r (h .0) (h .1) (h .2) (subst (λ (v : Scan). Lang v r) (sym (let z : afterSetup a (wLengthIn hi) ≡ s′ = cc in z)) k)
 sound between s′ (out a e b last l) r m h q k = bulk-start-sound a e b last l r s′ h q k
-sound (afterSetup a wl) s′ (setup a′ lo hi′) r m h q k = no-sent a wl (setup a′ lo hi′ ∷ r) (setup-part a′ lo hi′ r (h .0) (h .1) (h .2) (subst (λ (v : Scan). Lang v r) (sym (let z : afterSetup a′ (lengthIn hi′) ≡ s′ = cc in z)) k))
+sound (afterSetup a wl) s′ (setup a′ lo hi′) r m h q k = no-sent a wl (setup a′ lo hi′ ∷ r) (setup-part a′ lo hi′ r (h .0) (h .1) (h .2) (subst (λ (v : Scan). Lang v r) (sym (let z : afterSetup a′ (wLengthIn hi′) ≡ s′ = cc in z)) k))
 sound (afterSetup a wl) s′ (out a′ e b last l) r m h q k = byCases (eqb e 0)
     (λ (z : eqb e 0 ≡ true).
     let u : 0 ≡ e = sym (eqb-true e 0 z) in
@@ -323,9 +322,9 @@ sound (inControl a wl q p t) s′ (out a′ e′ b last l) r m h g k = control-n
 
 -- ---- completeness, entry by entry
 
-longer : (xs : List (List ℕ)) (l : List ℕ) → length l ≤ length (bytes xs l)
+longer : (xs : List (List ℕ)) (l : List ℕ) → length l ≤ length (groupBytes xs l)
 longer [] l = omega arith
-longer (x ∷ xs) l = let h = longer xs l in let e = length-append x (bytes xs l) in omega arith
+longer (x ∷ xs) l = let h = longer xs l in let e = length-append x (groupBytes xs l) in omega arith
 
 record Step (s : Scan) (e : Entry) (r : List Entry) (n : ℕ) : Type 0 where
   next : Scan
@@ -342,36 +341,36 @@ eqb-self n = eq-eqb n n refl
 all-of : (p n : ℕ) (xs : List (List ℕ)) → n ≡ p → AllOf p xs → AllOf n xs
 all-of p n xs e h = subst (λ (k : ℕ). AllOf k xs) (sym e) h
 
-abbrev read-of : (ps : List Part) → AllFit ps → PlainReading (written ps)
+abbrev read-of : (ps : List Part) → AllFit ps → PlainReading (partsEntries ps)
 read-of ps h = record { parts = ps; fit = h; is = refl }
 
-between-parts : (ps : List Part) (e : Entry) (r : List Entry) → AllFit ps → written ps ≡ e ∷ r → Step between e r (length ps)
+between-parts : (ps : List Part) (e : Entry) (r : List Entry) → AllFit ps → partsEntries ps ≡ e ∷ r → Step between e r (length ps)
 between-parts [] e r h q = none-entry e r q
-between-parts (bulk a n b [] l ∷ ps) e r h q =
-    step-at between (suc (length ps)) (out a n b true l) e (written ps) r q (record { next = between; fed = rw (le-leb 1 n (h .0 .1)); lang = read-of ps (h .1); counted = omega arith })
-between-parts (bulk a n b (x ∷ xs) l ∷ ps) e r h q =
+between-parts (bulkPart a n b [] l ∷ ps) e r h q =
+    step-at between (suc (length ps)) (out a n b true l) e (partsEntries ps) r q (record { next = between; fed = rw (le-leb 1 n (h .0 .1)); lang = read-of ps (h .1); counted = omega arith })
+between-parts (bulkPart a n b (x ∷ xs) l ∷ ps) e r h q =
     let z = h .0 .3 in
     let u : length x ≡ z .p = z .full .0 in
     let lo : 1 ≤ length x = let v = z .low in omega arith in
-    let m = length-append x (bytes xs l) in
-    step-at between (suc (length ps)) (out a n b false x) e (group a n (not b) xs l ++ written ps) r q (record {
+    let m = length-append x (groupBytes xs l) in
+    step-at between (suc (length ps)) (out a n b false x) e (group a n (not b) xs l ++ partsEntries ps) r q (record {
       next = inBulk a n (not b) (length x) (length x);
       fed = rw (le-leb 1 n (h .0 .1), le-leb 1 (length x) lo);
       lang = record {
         xs = xs;
         l = l;
-        after = written ps;
+        after = partsEntries ps;
         full = all-of (z .p) (length x) xs u (z .full .1);
         short = let v = z .short in omega arith;
         total = let v = z .total in omega arith;
-        are = bytes-right x (bytes xs l) (z .are);
+        are = bytes-right x (groupBytes xs l) (z .are);
         rest = read-of ps (h .1);
         is = refl;
       };
       counted = omega arith;
     })
-between-parts (control a lo hi s ∷ ps) e r h q =
-    step-at between (suc (length ps)) (setup a lo hi) e (sentEntries a s ++ written ps) r q (record { next = afterSetup a (lengthIn hi); fed = refl; lang = record { s = s; fits = of-fits hi s (h .0 .3); after = written ps; rest = read-of ps (h .1); is = refl }; counted = omega arith })
+between-parts (controlPart a lo hi s ∷ ps) e r h q =
+    step-at between (suc (length ps)) (setup a lo hi) e (sentEntries a s ++ partsEntries ps) r q (record { next = afterSetup a (wLengthIn hi); fed = refl; lang = record { s = s; fits = of-fits hi s (h .0 .3); after = partsEntries ps; rest = read-of ps (h .1); is = refl }; counted = omega arith })
 
 -- What begins a part is taken after a SETUP too.
 later : (a : ℕ) (wl : ℕ) (e : Entry) (s′ : Scan) → feed between e ≡ some s′ → feed (afterSetup a wl) e ≡ some s′
@@ -392,7 +391,7 @@ later-starts a wl (out a′ n b false l) s′ q =
     let g = leb-true 1 n (and-left (leb 1 n) (leb 1 (length l)) (guard-some (leb 1 n && leb 1 (length l)) (inBulk a′ n (not b) (length l) (length l)) s′ q .0)) in
     rw (ne-eqb n 0 (λ (z : n ≡ 0). omega arith))
 
-last-taken : (wl : ℕ) (l : List ℕ) → SentOf wl (G.some [] l) → (eqb (length l) 0 || eqb (length l) wl) ≡ true
+last-taken : (wl : ℕ) (l : List ℕ) → SentOf wl (oneGroup [] l) → (eqb (length l) 0 || eqb (length l) wl) ≡ true
 last-taken wl l (inl h) = subst (λ (v : List ℕ). (eqb (length v) 0 || eqb (length v) wl) ≡ true) (sym (h .1)) refl
 last-taken wl l (inr h) = rw (eq-eqb (length l) wl (h .1)) (or-true (eqb (length l) 0))
 
@@ -400,17 +399,17 @@ cons-none : {A : Type 0} (x : List ℕ) (xs : List (List ℕ)) → x ∷ xs ≡ 
 cons-none x xs q = absurd (let z : _≡_ {A = ℕ} 0 1 = cc in omega arith)
 
 after-setup : (a : ℕ) (wl : ℕ) (s : Sent) (after : List Entry) (e : Entry) (r : List Entry) → SentOf wl s → (k : PlainReading after) → sentEntries a s ++ after ≡ e ∷ r → Step (afterSetup a wl) e r (length (k .parts))
-after-setup a wl G.none after e r f k q =
+after-setup a wl noGroup after e r f k q =
     let st = between-parts (k .parts) e r (k .fit) (k .is ∙ q) in
     record { next = st .next; fed = later a wl e (st .next) (st .fed); lang = st .lang; counted = ap (λ (n : ℕ). n + due (st .next) r (st .lang)) (later-starts a wl e (st .next) (st .fed)) ∙ st .counted }
-after-setup a wl (G.some [] l) after e r f k q =
+after-setup a wl (oneGroup [] l) after e r f k q =
     step-at (afterSetup a wl) (length (k .parts)) (out a 0 true true l) e after r q (record { next = between; fed = rw (eqb-self a, last-taken wl l f); lang = k; counted = omega arith })
-after-setup a wl (G.some (x ∷ xs) l) after e r (inl f) k q = cons-none x xs (f .0)
-after-setup a wl (G.some (x ∷ xs) l) after e r (inr f) k q =
+after-setup a wl (oneGroup (x ∷ xs) l) after e r (inl f) k q = cons-none x xs (f .0)
+after-setup a wl (oneGroup (x ∷ xs) l) after e r (inr f) k q =
     let z = f .0 in
     let u : length x ≡ z .p = z .full .0 in
     let lo : 1 ≤ length x = let v = z .low in omega arith in
-    let m = length-append x (bytes xs l) in
+    let m = length-append x (groupBytes xs l) in
     let w = f .1 in
     let ll = longer xs l in
     let up : length x < wl = let v = f .2 in omega arith in
@@ -425,7 +424,7 @@ after-setup a wl (G.some (x ∷ xs) l) after e r (inr f) k q =
         short = let v = z .short in omega arith;
         some-last = f .2;
         total = sym m ∙ w;
-        are = bytes-right x (bytes xs l) (z .are);
+        are = bytes-right x (groupBytes xs l) (z .are);
         rest = k;
         is = refl;
       };
@@ -433,31 +432,31 @@ after-setup a wl (G.some (x ∷ xs) l) after e r (inr f) k q =
     })
 
 in-bulk : (a n : ℕ) (v : Bool) (p t : ℕ) (xs : List (List ℕ)) (l : List ℕ) (after : List Entry) (e : Entry) (r : List Entry)
-    → AllOf p xs → length l ≤ p → t + length (bytes xs l) ≤ 65535 → Bytes (bytes xs l) → (k : PlainReading after) → group a n v xs l ++ after ≡ e ∷ r → Step (inBulk a n v p t) e r (length (k .parts))
+    → AllOf p xs → length l ≤ p → t + length (groupBytes xs l) ≤ 65535 → Bytes (groupBytes xs l) → (k : PlainReading after) → group a n v xs l ++ after ≡ e ∷ r → Step (inBulk a n v p t) e r (length (k .parts))
 in-bulk a n v p t [] l after e r f s tot by k q =
     step-at (inBulk a n v p t) (length (k .parts)) (out a n v true l) e after r q (record { next = between; fed = rw (eqb-self a, eqb-self n, beq-refl v, le-leb (length l) p s, le-leb (t + length l) 65535 tot); lang = k; counted = omega arith })
 in-bulk a n v p t (x ∷ xs) l after e r f s tot by k q =
-    let m = length-append x (bytes xs l) in
+    let m = length-append x (groupBytes xs l) in
     let u : t + length x ≤ 65535 = omega arith in
     step-at (inBulk a n v p t) (length (k .parts)) (out a n v false x) e (group a n (not v) xs l ++ after) r q (record {
       next = inBulk a n (not v) p (t + length x);
       fed = rw (eqb-self a, eqb-self n, beq-refl v, eq-eqb (length x) p (f .0), le-leb (t + length x) 65535 u);
-      lang = record { xs = xs; l = l; after = after; full = f .1; short = s; total = omega arith; are = bytes-right x (bytes xs l) by; rest = k; is = refl };
+      lang = record { xs = xs; l = l; after = after; full = f .1; short = s; total = omega arith; are = bytes-right x (groupBytes xs l) by; rest = k; is = refl };
       counted = omega arith;
     })
 
 in-control : (a : ℕ) (wl : ℕ) (v : Bool) (p t : ℕ) (xs : List (List ℕ)) (l : List ℕ) (after : List Entry) (e : Entry) (r : List Entry)
-    → AllOf p xs → length l ≤ p → 1 ≤ length l → t + length (bytes xs l) ≡ wl → Bytes (bytes xs l) → (k : PlainReading after) → group a 0 v xs l ++ after ≡ e ∷ r → Step (inControl a wl v p t) e r (length (k .parts))
+    → AllOf p xs → length l ≤ p → 1 ≤ length l → t + length (groupBytes xs l) ≡ wl → Bytes (groupBytes xs l) → (k : PlainReading after) → group a 0 v xs l ++ after ≡ e ∷ r → Step (inControl a wl v p t) e r (length (k .parts))
 in-control a wl v p t [] l after e r f s o tot by k q =
     step-at (inControl a wl v p t) (length (k .parts)) (out a 0 v true l) e after r q (record { next = between; fed = rw (eqb-self a, beq-refl v, le-leb 1 (length l) o, le-leb (length l) p s, eq-eqb (t + length l) wl tot); lang = k; counted = omega arith })
 in-control a wl v p t (x ∷ xs) l after e r f s o tot by k q =
-    let m = length-append x (bytes xs l) in
+    let m = length-append x (groupBytes xs l) in
     let ll = longer xs l in
     let u : t + length x < wl = omega arith in
     step-at (inControl a wl v p t) (length (k .parts)) (out a 0 v false x) e (group a 0 (not v) xs l ++ after) r q (record {
       next = inControl a wl (not v) p (t + length x);
       fed = rw (eqb-self a, beq-refl v, eq-eqb (length x) p (f .0), lt-ltb (t + length x) wl u);
-      lang = record { xs = xs; l = l; after = after; full = f .1; short = s; some-last = o; total = let w : (t + length x) + length (bytes xs l) ≡ t + length (x ++ bytes xs l) = omega arith in w ∙ tot; are = bytes-right x (bytes xs l) by; rest = k; is = refl };
+      lang = record { xs = xs; l = l; after = after; full = f .1; short = s; some-last = o; total = let w : (t + length x) + length (groupBytes xs l) ≡ t + length (x ++ groupBytes xs l) = omega arith in w ∙ tot; are = bytes-right x (groupBytes xs l) by; rest = k; is = refl };
       counted = omega arith;
     })
 
@@ -473,14 +472,14 @@ no-group : {A : Type 0} (a n : ℕ) (v : Bool) (xs : List (List ℕ)) (l : List 
 no-group a n v [] l after q = none-entry (out a n v true l) after (sym q)
 no-group a n v (x ∷ xs) l after q = none-entry (out a n v false x) (group a n (not v) xs l ++ after) (sym q)
 
-no-parts : (ps : List Part) → written ps ≡ [] → length ps ≡ 0
+no-parts : (ps : List Part) → partsEntries ps ≡ [] → length ps ≡ 0
 no-parts [] q = refl
-no-parts (bulk a e b xs l ∷ ps) q = no-group a e b xs l (written ps) q
-no-parts (control a lo hi s ∷ ps) q = none-entry (setup a lo hi) (sentEntries a s ++ written ps) (sym q)
+no-parts (bulkPart a e b xs l ∷ ps) q = no-group a e b xs l (partsEntries ps) q
+no-parts (controlPart a lo hi s ∷ ps) q = none-entry (setup a lo hi) (sentEntries a s ++ partsEntries ps) (sym q)
 
 none-sent : (a wl : ℕ) (s : Sent) (after : List Entry) (k : PlainReading after) → sentEntries a s ++ after ≡ [] → length (k .parts) ≡ 0
-none-sent a wl G.none after k q = no-parts (k .parts) (k .is ∙ q)
-none-sent a wl (G.some xs l) after k q = no-group a 0 true xs l after q
+none-sent a wl noGroup after k q = no-parts (k .parts) (k .is ∙ q)
+none-sent a wl (oneGroup xs l) after k q = no-group a 0 true xs l after q
 
 -- What may come is taken to its end, and its items are counted.
 record Takes (s : Scan) (r : List Entry) (n : ℕ) : Type 0 where
@@ -512,9 +511,9 @@ bulk-start-met a e b false l s′ h q = guard-met (leb 1 e && leb 1 (length l)) 
     (λ (g : (leb 1 e && leb 1 (length l)) ≡ true). (h .0, leb-true 1 e (and-left (leb 1 e) (leb 1 (length l)) g), h .1, leb-true 1 (length l) (and-right (leb 1 e) (leb 1 (length l)) g), h .2, (let v = h .2 in omega arith))) q
 
 met-next : (s s′ : Scan) (e : Entry) → Met s → InRange e → feed s e ≡ some s′ → Met s′
-met-next between s′ (setup a lo hi) m h q = subst Met (let z : afterSetup a (lengthIn hi) ≡ s′ = cc in z) (h .0, length-small hi (h .2))
+met-next between s′ (setup a lo hi) m h q = subst Met (let z : afterSetup a (wLengthIn hi) ≡ s′ = cc in z) (h .0, length-small hi (h .2))
 met-next between s′ (out a e b last l) m h q = bulk-start-met a e b last l s′ h q
-met-next (afterSetup a wl) s′ (setup a′ lo hi′) m h q = subst Met (let z : afterSetup a′ (lengthIn hi′) ≡ s′ = cc in z) (h .0, length-small hi′ (h .2))
+met-next (afterSetup a wl) s′ (setup a′ lo hi′) m h q = subst Met (let z : afterSetup a′ (wLengthIn hi′) ≡ s′ = cc in z) (h .0, length-small hi′ (h .2))
 met-next (afterSetup a wl) s′ (out a′ e b last l) m h q = byCases (eqb e 0) (λ (z : eqb e 0 ≡ true). start last (rw z at q)) (λ (z : eqb e 0 ≡ false). bulk-start-met a′ e b last l s′ h (rw z at q))
   where
     start : (last : Bool) → controlStart a wl a′ b last (length l) ≡ some s′ → Met s′
@@ -586,8 +585,8 @@ record Filled (p n : ℕ) : Type 0 where
   full : AllOf p xs
   short : length l ≤ p
   some-last : 1 ≤ length l
-  total : length (bytes xs l) ≡ n
-  are : Bytes (bytes xs l)
+  total : length (groupBytes xs l) ≡ n
+  are : Bytes (groupBytes xs l)
 
 fill : (f p n : ℕ) → 1 ≤ p → 1 ≤ n → n ≤ f → Filled p n
 fill zero p n hp hn hf = absurd (omega arith)
@@ -599,7 +598,7 @@ fill (suc f) p n hp hn hf = byCases (leb n p)
     let v = leb-false n p q in
     let z = fill f p (n - p) hp (omega arith) (omega arith) in
     let e : length (replicate p 0) ≡ p = length-replicate {A = ℕ} p 0 in
-    let m = length-append (replicate p 0) (bytes (z .xs) (z .l)) in
+    let m = length-append (replicate p 0) (groupBytes (z .xs) (z .l)) in
     record {
       xs = replicate p 0 ∷ z .xs;
       l = z .l;
@@ -607,7 +606,7 @@ fill (suc f) p n hp hn hf = byCases (leb n p)
       short = z .short;
       some-last = z .some-last;
       total = let t = z .total in omega arith;
-      are = bytes-append (replicate p 0) (bytes (z .xs) (z .l)) (zeros p) (z .are);
+      are = bytes-append (replicate p 0) (groupBytes (z .xs) (z .l)) (zeros p) (z .are);
     })
 
 end-control : (a : ℕ) (wl : ℕ) (q : Bool) (p t n : ℕ) → 1 ≤ p → t + suc n ≡ wl → Ending (inControl a wl q p t)

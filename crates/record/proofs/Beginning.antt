@@ -28,9 +28,9 @@ use Rattle.transfers.specs.Calls.{Beginning, fieldsRefusal, beginRefusal, begin
 use Rattle.transfers.proofs.OpenPipes.{between, lent-sizes}
 use Rattle.record.specs.Grammar.{Entry}
 use Rattle.record.specs.Wire.{File}
-use Rattle.record.specs.Calls.{Begin, control, bulk, begin, beginning, begins}
+use Rattle.record.specs.Calls.{Begin, controlBegin, bulkBegin, begin, beginning, begins}
 use Rattle.record.specs.Asked.{TypedSetup, TypedBegin, armedBy}
-use Rattle.record.specs.Told.{Live, none, live, Watch}
+use Rattle.record.specs.Told.{Live, noTransfer, live, Watch}
 use Rattle.record.proofs.Logs.{silent-nil}
 use Rattle.record.proofs.Cuts.{all-cut}
 use Rattle.record.proofs.Begins.{Checked}
@@ -67,19 +67,19 @@ passed true true true false p n q = none-some _ q
 passed true true true true false n q = none-some _ q
 passed true true true true true false q = none-some _ q
 
-idle-inv : (l : Live) (n : ℕ) (w : Watch) (f : File) (t : Transfer) (rest : List Entry) → isIdle t ≡ true → Inv l n w f t rest → (l ≡ none) × (rest ≡ [])
-idle-inv none n w f Idle rest e i = (refl, i)
-idle-inv none n w f (Busy r) rest e i = absurd i
+idle-inv : (l : Live) (n : ℕ) (w : Watch) (f : File) (t : Transfer) (rest : List Entry) → isIdle t ≡ true → Inv l n w f t rest → (l ≡ noTransfer) × (rest ≡ [])
+idle-inv noTransfer n w f Idle rest e i = (refl, i)
+idle-inv noTransfer n w f (Busy r) rest e i = absurd i
 idle-inv (live x buf) n w f Idle rest e i = absurd i
 idle-inv (live x buf) n w f (Busy r) rest e i = absurd (true≢false (sym e))
 
 pub checked-control : (a : ℕ) (z : TransferExtras) (p : ℕ) (s : SetupPacket) (ph : DataPhase) (buf : List ℕ) → addressGood a ≡ true → sizeGood p ≡ true → TypedSetup s
-    → Checked (control a z p s ph) buf
+    → Checked (controlBegin a z p s ph) buf
 checked-control a z p s ph buf qa qp ty = let k = between 1 p 64 qp in record { addr = leb-true a 127 qa; low = k .0; high = k .1; kind = ty }
 
 pub checked-bulk : (d : Direction) (a e p : ℕ) (t : TransferType) (b : Bool) (buf : List ℕ) → addressGood a ≡ true → endpointGood e ≡ true → sizeGood p ≡ true
     → leb (length buf) 0xFFFF ≡ true
-    → Checked (bulk d a e p t b) buf
+    → Checked (bulkBegin d a e p t b) buf
 checked-bulk d a e p t b buf qa qe qp qn =
     let k = between 1 p 64 qp in
     let j = between 1 e 15 qe in
@@ -96,16 +96,16 @@ module _ (d : Driver) (n : ℕ) (w : Watch) (f : File) (buf m log : List ℕ) wh
   -- ---- accepted: nothing was due
 
   from-idle : (x : Begin) (l : Live) (t : Transfer) (rest : List Entry) (o : Beginning) → isIdle t ≡ true → Inv l n w f t rest
-      → Kept none n w f [] (begin x buf m log) (begins d x buf m log o) → Kept l n w f rest (begin x buf m log) (begins d x buf m log o)
+      → Kept noTransfer n w f [] (begin x buf m log) (begins d x buf m log o) → Kept l n w f rest (begin x buf m log) (begins d x buf m log o)
   from-idle x l t rest o e i k =
       let j = idle-inv l n w f t rest e i in
       subst (λ (v : Live). Kept v n w f rest (begin x buf m log) (begins d x buf m log o)) (sym (j .0))
-      (subst (λ (v : List Entry). Kept none n w f v (begin x buf m log) (begins d x buf m log o)) (sym (j .1)) k)
+      (subst (λ (v : List Entry). Kept noTransfer n w f v (begin x buf m log) (begins d x buf m log o)) (sym (j .1)) k)
 
-  begins-control : (a : ℕ) (z : TransferExtras) (p : ℕ) (s : SetupPacket) (ph : DataPhase) → Checked (control a z p s ph) buf
-      → Kept none n w f [] (begin (control a z p s ph) buf m log) (begins d (control a z p s ph) buf m log (beginsControl a z p s ph (length buf) m))
+  begins-control : (a : ℕ) (z : TransferExtras) (p : ℕ) (s : SetupPacket) (ph : DataPhase) → Checked (controlBegin a z p s ph) buf
+      → Kept noTransfer n w f [] (begin (controlBegin a z p s ph) buf m log) (begins d (controlBegin a z p s ph) buf m log (beginsControl a z p s ph (length buf) m))
   begins-control a z p s ph ck =
-      let x = control a z p s ph in
+      let x = controlBegin a z p s ph in
       record {
         rest′ = dueSetup x buf;
         inv = record { same = refl; checked = ck; stage = (tt, refl, refl) };
@@ -113,8 +113,8 @@ module _ (d : Driver) (n : ℕ) (w : Watch) (f : File) (buf m log : List ℕ) wh
         room = λ q r. tt;
       }
 
-  begins-in : (a e p : ℕ) (t : TransferType) (b : Bool) → Checked (bulk In a e p t b) buf
-      → Kept none n w f [] (begin (bulk In a e p t b) buf m log) (begins d (bulk In a e p t b) buf m log (beginsBulkIn (bulkRequest In a e p b (length buf)) t m))
+  begins-in : (a e p : ℕ) (t : TransferType) (b : Bool) → Checked (bulkBegin In a e p t b) buf
+      → Kept noTransfer n w f [] (begin (bulkBegin In a e p t b) buf m log) (begins d (bulkBegin In a e p t b) buf m log (beginsBulkIn (bulkRequest In a e p b (length buf)) t m))
   unfolding startIn
   begins-in a e p t b ck =
       let X = bulkRequest In a e p b (length buf) in
@@ -126,11 +126,11 @@ module _ (d : Driver) (n : ℕ) (w : Watch) (f : File) (buf m log : List ℕ) wh
         room = λ q r. tt;
       }
 
-  begins-out : (a e p : ℕ) (t : TransferType) (b : Bool) → Checked (bulk Out a e p t b) buf → length m ≡ 4096
-      → Kept none n w f [] (begin (bulk Out a e p t b) buf m log) (begins d (bulk Out a e p t b) buf m log (beginsBulkOut (bulkRequest Out a e p b (length buf)) e t buf m))
+  begins-out : (a e p : ℕ) (t : TransferType) (b : Bool) → Checked (bulkBegin Out a e p t b) buf → length m ≡ 4096
+      → Kept noTransfer n w f [] (begin (bulkBegin Out a e p t b) buf m log) (begins d (bulkBegin Out a e p t b) buf m log (beginsBulkOut (bulkRequest Out a e p b (length buf)) e t buf m))
   unfolding startOut
   begins-out a e p t b ck full =
-      let x = bulk Out a e p t b in
+      let x = bulkBegin Out a e p t b in
       let ks = outCut t p b buf in
       let left = all-cut t p b buf (ck .low) (ck .high) (ck .kind .2) in
       let r = start-out [] x buf t false 0 (length buf) buf m f ks silent-nil ck refl full left (out-ends t p b buf) in
@@ -144,22 +144,22 @@ module _ (d : Driver) (n : ℕ) (w : Watch) (f : File) (buf m log : List ℕ) wh
   pub begin-kept : (x : Begin) (l : Live) (t : Transfer) (rest : List Entry) → TypedBegin x → Inv l n w f t rest
       → Kept l n w f rest (begin x buf m log) (begins d x buf m log (beginning t x buf m log))
   unfolding beginControlOf beginBulkInOf beginBulkOutOf
-  begin-kept (control a z p s ph) l t rest ty i =
-      let x = control a z p s ph in
+  begin-kept (controlBegin a z p s ph) l t rest ty i =
+      let x = controlBegin a z p s ph in
       let o = beginsControl a z p s ph (length buf) m in
       begin-or x l t rest (controlRefusal t a p m log) o i
       (λ q.
       let k = passed (lentFits m log) (isIdle t) (addressGood a) true (sizeGood p) true q in
       from-idle x l t rest o (k .free) i (begins-control a z p s ph (checked-control a z p s ph buf (k .address) (k .size) (ty .2))))
-  begin-kept (bulk In a e p k b) l t rest ty i =
-      let x = bulk In a e p k b in
+  begin-kept (bulkBegin In a e p k b) l t rest ty i =
+      let x = bulkBegin In a e p k b in
       let o = beginsBulkIn (bulkRequest In a e p b (length buf)) k m in
       begin-or x l t rest (bulkRefusal t a e p buf m log) o i
       (λ q.
       let j = passed (lentFits m log) (isIdle t) (addressGood a) (endpointGood e) (sizeGood p) (leb (length buf) 0xFFFF) q in
       from-idle x l t rest o (j .free) i (begins-in a e p k b (checked-bulk In a e p k b buf (j .address) (j .endpoint) (j .size) (j .room))))
-  begin-kept (bulk Out a e p k b) l t rest ty i =
-      let x = bulk Out a e p k b in
+  begin-kept (bulkBegin Out a e p k b) l t rest ty i =
+      let x = bulkBegin Out a e p k b in
       let o = beginsBulkOut (bulkRequest Out a e p b (length buf)) e k buf m in
       begin-or x l t rest (bulkRefusal t a e p buf m log) o i
       (λ q.

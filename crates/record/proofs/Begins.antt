@@ -12,21 +12,21 @@ use Rattle.transfers.specs.declared.driver.Kind.{Kind}
 use Rattle.transfers.specs.declared.driver.Kind.the-variants.{Control as controlKind, Bulk as bulkKind}
 use Rattle.transfers.specs.State.{endpointOf}
 use Rattle.record.specs.Grammar.{Bytes}
-use Rattle.record.specs.Calls.{Begin, control, bulk}
+use Rattle.record.specs.Calls.{Begin, controlBegin, bulkBegin}
 use Rattle.record.specs.Asked.{TypedSetup}
 
 -- The fields of a begin that the driver's state keeps.
 abbrev pub addressOf : Begin → ℕ
-addressOf (control a x p s ph) = a
-addressOf (bulk d a e p t b) = a
+addressOf (controlBegin a x p s ph) = a
+addressOf (bulkBegin d a e p t b) = a
 
 abbrev pub sizeOf : Begin → ℕ
-sizeOf (control a x p s ph) = p
-sizeOf (bulk d a e p t b) = p
+sizeOf (controlBegin a x p s ph) = p
+sizeOf (bulkBegin d a e p t b) = p
 
 abbrev pub kindOf : Begin → Kind
-kindOf (control a x p s ph) = controlKind (record { phase = ph; wLength = s .wLength })
-kindOf (bulk d a e p t b) = bulkKind (record { direction = d; endpoint = e; toggle = b })
+kindOf (controlBegin a x p s ph) = controlKind (record { phase = ph; wLength = s .wLength })
+kindOf (bulkBegin d a e p t b) = bulkKind (record { direction = d; endpoint = e; toggle = b })
 
 abbrev pub requestOf : Begin → List ℕ → Request
 requestOf x buf = record { address = addressOf x; size = sizeOf x; kind = kindOf x; length = length buf }
@@ -37,8 +37,8 @@ busy x buf st = Busy (record { request = requestOf x buf; stage = st })
 
 -- A control's SETUP has the fields of its type; a bulk begin's endpoint and buffer were checked.
 abbrev pub KindChecked : Begin → List ℕ → Type 0
-KindChecked (control a x p s ph) buf = TypedSetup s
-KindChecked (bulk d a e p t b) buf = (1 ≤ e) × (e ≤ 15) × (length buf ≤ 65535)
+KindChecked (controlBegin a x p s ph) buf = TypedSetup s
+KindChecked (bulkBegin d a e p t b) buf = (1 ≤ e) × (e ≤ 15) × (length buf ≤ 65535)
 
 pub record Checked (x : Begin) (buf : List ℕ) : Type 0 where
   pub addr : addressOf x ≤ 127
@@ -47,15 +47,15 @@ pub record Checked (x : Begin) (buf : List ℕ) : Type 0 where
   pub kind : KindChecked x buf
 
 pub endpoint-small : (x : Begin) (buf : List ℕ) → Checked x buf → endpointOf (kindOf x) ≤ 15
-endpoint-small (control a x p s ph) buf h = omega arith
-endpoint-small (bulk d a e p t b) buf h = h .kind .1
+endpoint-small (controlBegin a x p s ph) buf h = omega arith
+endpoint-small (bulkBegin d a e p t b) buf h = h .kind .1
 
 -- A control Out's buffer holds wLength bytes: else the transfer ends with 7.
 abbrev pub Room : Begin → List ℕ → Type 0
-Room (control a x p s phaseIn) buf = Unit {0}
-Room (control a x p s phaseOut) buf = s .wLength ≤ length buf
-Room (control a x p s phaseNone) buf = Unit {0}
-Room (bulk d a e p t b) buf = Unit {0}
+Room (controlBegin a x p s phaseIn) buf = Unit {0}
+Room (controlBegin a x p s phaseOut) buf = s .wLength ≤ length buf
+Room (controlBegin a x p s phaseNone) buf = Unit {0}
+Room (bulkBegin d a e p t b) buf = Unit {0}
 
 pub record Proper (x : Begin) (buf : List ℕ) : Type 0 where
   pub checked : Checked x buf

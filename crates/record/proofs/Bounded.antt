@@ -47,7 +47,8 @@ use Rattle.transfers.specs.Retiring.{InRetiring, inRetireOne}
 use Rattle.transfers.specs.Outcome.{Outcome, startIn, startOut, entersIn, entersOut}
 use Rattle.transfers.specs.Step.{setupDone, setupStep, inReceived, inDone, inSecondDone, inFirstDone, inComplete, inRearm, inSecondMoved, inFirstMoved, inMove, inStep, outPackets, outRetireTwo, outControlDone, outDone, outComplete, outMove, outStep, lent, keeping, polls, acts}
 use Rattle.transfers.specs.Calls.{Beginning, beginsControl, beginsBulkIn, beginsBulkOut}
-use Rattle.transfers.specs.Entries.{armedCount, ends}
+use Rattle.transfers.specs.Entries.{armedCount}
+use Rattle.record.specs.Told.{ends}
 use Rattle.record.proofs.Stepping.{found-ends}
 
 -- ---- the bound
@@ -67,7 +68,7 @@ InBound n false = n ≤ 1
 InBound n true = n ≤ 65536
 
 -- The same of each stage: in SETUP only the SETUP was armed.
-abbrev StageBound : ℕ → Stage → Type 0
+abbrev pub StageBound : ℕ → Stage → Type 0
 StageBound n setupStage = n ≤ 1
 StageBound n (inStage st) = InBound n (st .status)
 StageBound n (outStage st) = OutBound n (st .remain) (st .zlp)
@@ -76,6 +77,29 @@ StageBound n (outStage st) = OutBound n (st .remain) (st .zlp)
 abbrev pub Bounded : ℕ → Transfer → Type 0
 Bounded n Idle = Unit {0}
 Bounded n (Busy r) = StageBound n (r .stage)
+
+-- The same, where a transfer is under way.
+abbrev pub UnderWay : ℕ → Transfer → Type 0
+UnderWay n Idle = ⊥
+UnderWay n (Busy r) = StageBound n (r .stage)
+
+pub under-bounded : (n : ℕ) (t : Transfer) → UnderWay n t → Bounded n t
+under-bounded n Idle h = tt
+under-bounded n (Busy r) h = h
+
+-- With nothing armed every stage is.
+pub none-bound : (st : Stage) → StageBound 0 st
+none-bound setupStage = omega arith
+none-bound (inStage st) = by (st .status)
+  where
+    by : (v : Bool) → InBound 0 v
+    by false = omega arith
+    by true = omega arith
+none-bound (outStage st) = by (st .zlp)
+  where
+    by : (z : Bool) → OutBound 0 (st .remain) z
+    by false = (omega arith, λ r. omega arith)
+    by true = (omega arith, λ r. omega arith)
 
 pub bounded-small : (n : ℕ) (r : Run) → Bounded n (Busy r) → n ≤ 65536
 bounded-small n r h = by (r .stage) h
@@ -199,7 +223,7 @@ bulk-out-bound x e k buf m =
 
 -- With n entries armed before it.
 abbrev pub Shaped : ℕ → StepAnswer → Transfer → Armed → Type 0
-Shaped n (Waiting again) t a = Bounded (n + armedCount a) t
+Shaped n (Waiting again) t a = UnderWay (n + armedCount a) t
 Shaped n (Done k) t a = t ≡ Idle
 Shaped n (Refused why) t a = (ends why ≡ true) × (t ≡ Idle) × (a ≡ nothingArmed)
 

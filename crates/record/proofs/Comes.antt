@@ -17,15 +17,14 @@ use Rattle.transfers.specs.declared.host_controller.TransferExtras.the-variants
 use Rattle.transfers.specs.declared.wire.SetupPacket.{SetupPacket}
 use Rattle.transfers.specs.declared.wire.Direction.the-variants.{Out}
 use Rattle.transfers.specs.Memory.{lentFits}
-use Rattle.record.specs.Grammar as G
-use Rattle.record.specs.Grammar.{Four, four, lengthIn, Bytes, FourBytes, Entry, setup, out, group, bytes, AllOf, Sent, Part, entries, Fits, AllFit, SentFits, written, PlainReading}
+use Rattle.record.specs.Grammar.{Four, four, wLengthIn, Bytes, FourBytes, Entry, setup, out, group, groupBytes, AllOf, Sent, Part, partEntries, Fits, AllFit, SentFits, partsEntries, PlainReading, Sizes, bulkPart, controlPart, noGroup, oneGroup}
 use Rattle.record.specs.Wire.{File}
 use Rattle.transfers.specs.Driver.{fresh}
-use Rattle.record.specs.Calls.{control, bulk, Call}
+use Rattle.record.specs.Calls.{controlBegin, bulkBegin, Call}
 use Rattle.record.specs.Armed.{setupEntry}
 use Rattle.record.specs.Asked.{AllTyped, Words, TypedSetup, Begun, outEntry, armedBy}
 use Rattle.record.specs.Fates.{begunFrom}
-use Rattle.record.specs.Told.{none, unarmed}
+use Rattle.record.specs.Told.{noTransfer, notArmed}
 use Rattle.record.proofs.Unbroken.{entriesFrom, UnbrokenFrom}
 use Rattle.record.proofs.Cuts.{cutAt, cut-is, cut-more, cut-last}
 use Rattle.record.proofs.Begins.{Checked}
@@ -35,23 +34,23 @@ use Rattle.record.proofs.Exists.{Free, Run, run-bulk, run-none, run-in,
 
 -- ---- a group is a cutting
 
-bytes-longer : (xs : List (List ℕ)) (l : List ℕ) → length l ≤ length (bytes xs l)
+bytes-longer : (xs : List (List ℕ)) (l : List ℕ) → length l ≤ length (groupBytes xs l)
 bytes-longer [] l = omega arith
-bytes-longer (x ∷ xs) l = omega (arith, bytes-longer xs l, length-append x (bytes xs l))
+bytes-longer (x ∷ xs) l = omega (arith, bytes-longer xs l, length-append x (groupBytes xs l))
 
 module _ (t : TransferType) (p : ℕ) (l : List ℕ) (pos : 1 ≤ p) (stops : more t p (length l) ≡ false) (goes : (k : ℕ) → length l ≤ k → more t p (p + k) ≡ true) (a e : ℕ) where
-  group-at : (xs : List (List ℕ)) (s b : Bool) → AllOf p xs → map (outEntry a e) (cutAt t p s b (bytes xs l)) ≡ group a e b xs l
+  group-at : (xs : List (List ℕ)) (s b : Bool) → AllOf p xs → map (outEntry a e) (cutAt t p s b (groupBytes xs l)) ≡ group a e b xs l
   group-at [] s b f = ap (map (outEntry a e)) (cut-last t p s b l pos stops)
   group-at (x ∷ xs) s b f =
-      let r = bytes xs l in
+      let r = groupBytes xs l in
       let q : length (x ++ r) ≡ p + length r = length-append x r ∙ ap (λ (k : ℕ). k + length r) (f .0) in
       let g : more t p (length (x ++ r)) ≡ true = ap (more t p) q ∙ goes (length r) (bytes-longer xs l) in
       ap (map (outEntry a e)) (cut-more t p s b (x ++ r) pos g)
       ∙ ap₂ {C = List Entry} (λ (u : List ℕ) (v : List Entry). out a e b false u ∷ v) (take-at x r p (f .0))
       (ap (λ (u : List ℕ). map (outEntry a e) (cutAt t p (not s) (not b) u)) (drop-at x r p (f .0)) ∙ group-at xs (not s) (not b) (f .1))
 
-  group-cut : (xs : List (List ℕ)) (b : Bool) → AllOf p xs → map (outEntry a e) (outCut t p b (bytes xs l)) ≡ group a e b xs l
-  group-cut xs b f = ap (map (outEntry a e)) (cut-is t p b (bytes xs l)) ∙ group-at xs false b f
+  group-cut : (xs : List (List ℕ)) (b : Bool) → AllOf p xs → map (outEntry a e) (outCut t p b (groupBytes xs l)) ≡ group a e b xs l
+  group-cut xs b f = ap (map (outEntry a e)) (cut-is t p b (groupBytes xs l)) ∙ group-at xs false b f
 
 -- ---- a SETUP with given bytes
 
@@ -71,7 +70,7 @@ setup-back x (four a b c d) (four e f g h) p q =
     let w = two-back g h (q .2) in
     λ i. setup x (four a b (u .0 i) (u .1 i)) (four (v .0 i) (v .1 i) (w .0 i) (w .1 i))
 
-length-of : (lo hi : Four) → setupOf lo hi .wLength ≡ lengthIn hi
+length-of : (lo hi : Four) → setupOf lo hi .wLength ≡ wLengthIn hi
 length-of (four a b c d) (four e f g h) = refl
 
 -- ---- lists of zeros
@@ -88,52 +87,52 @@ zero-words (suc n) = (omega arith, zero-words n)
 
 pub record Choice (q : Part) : Type 0 where
   pub begun : Begun
-  pub entries-are : armedBy begun ≡ entries q
+  pub entries-are : armedBy begun ≡ partEntries q
   pub run : (later : List Call) (gs : List Begun) → Free later gs → Run begun gs
 
 module _ (m log : List ℕ) (fits : lentFits m log ≡ true) (mb : Bytes m) (lw : Words log) where
-  choose-bulk : (a e : ℕ) (b : Bool) (xs : List (List ℕ)) (l : List ℕ) → Fits (G.bulk a e b xs l) → Choice (G.bulk a e b xs l)
+  choose-bulk : (a e : ℕ) (b : Bool) (xs : List (List ℕ)) (l : List ℕ) → Fits (bulkPart a e b xs l) → Choice (bulkPart a e b xs l)
   choose-bulk a e b xs [] h =
       let z = h .3 in
       let p = z .p in
-      let buf = bytes xs [] in
-      let ck : Checked (bulk Out a e p VariableSize b) buf = record { addr = h .0; low = z .low; high = z .high; kind = (h .1, h .2, z .total) } in
+      let buf = groupBytes xs [] in
+      let ck : Checked (bulkBegin Out a e p VariableSize b) buf = record { addr = h .0; low = z .low; high = z .high; kind = (h .1, h .2, z .total) } in
       record {
-        begun = record { fields = bulk Out a e p VariableSize b; buffer = buf };
+        begun = record { fields = bulkBegin Out a e p VariableSize b; buffer = buf };
         entries-are = group-cut VariableSize p [] (z .low) (lt-leb p 0 (z .low)) (λ k u. le-leb p (p + k) (omega arith)) a e xs b (z .full);
         run = λ later gs free. run-bulk m log fits mb lw later gs free a e p VariableSize b buf (z .are) ck;
       }
   choose-bulk a e b xs (y ∷ l) h =
       let z = h .3 in
       let p = z .p in
-      let buf = bytes xs (y ∷ l) in
-      let ck : Checked (bulk Out a e p FixedSize b) buf = record { addr = h .0; low = z .low; high = z .high; kind = (h .1, h .2, z .total) } in
+      let buf = groupBytes xs (y ∷ l) in
+      let ck : Checked (bulkBegin Out a e p FixedSize b) buf = record { addr = h .0; low = z .low; high = z .high; kind = (h .1, h .2, z .total) } in
       record {
-        begun = record { fields = bulk Out a e p FixedSize b; buffer = buf };
+        begun = record { fields = bulkBegin Out a e p FixedSize b; buffer = buf };
         entries-are = group-cut FixedSize p (y ∷ l) (z .low) (le-ltb p (length (y ∷ l)) (z .short)) (λ k u. lt-ltb p (p + k) (omega arith)) a e xs b (z .full);
         run = λ later gs free. run-bulk m log fits mb lw later gs free a e p FixedSize b buf (z .are) ck;
       }
 
   module _ (a : ℕ) (lo hi : Four) (ha : a ≤ 127) (bl : FourBytes lo) (bh : FourBytes hi) where
-    choose-none : Choice (G.control a lo hi G.none)
+    choose-none : Choice (controlPart a lo hi noGroup)
     choose-none =
         let s = setupOf lo hi in
-        let ck : Checked (control a Normal 64 s phaseNone) [] = record { addr = ha; low = omega arith; high = omega arith; kind = setup-typed lo hi bl bh } in
+        let ck : Checked (controlBegin a Normal 64 s phaseNone) [] = record { addr = ha; low = omega arith; high = omega arith; kind = setup-typed lo hi bl bh } in
         record {
-          begun = record { fields = control a Normal 64 s phaseNone; buffer = [] };
+          begun = record { fields = controlBegin a Normal 64 s phaseNone; buffer = [] };
           entries-are = ap (λ (x : Entry). x ∷ []) (setup-back a lo hi bl bh);
           run = λ later gs free. run-none m log fits mb lw later gs free a Normal 64 s [] tt ck;
         }
 
     -- One empty packet: a control In's status.
-    choose-empty : (xs : List (List ℕ)) (l : List ℕ) → xs ≡ [] → l ≡ [] → Choice (G.control a lo hi (G.some xs l))
+    choose-empty : (xs : List (List ℕ)) (l : List ℕ) → xs ≡ [] → l ≡ [] → Choice (controlPart a lo hi (oneGroup xs l))
     choose-empty xs l qx ql =
         let s = setupOf lo hi in
         let n = s .wLength in
         let buf : List ℕ = replicate n 0 in
-        let ck : Checked (control a Normal 64 s phaseIn) buf = record { addr = ha; low = omega arith; high = omega arith; kind = setup-typed lo hi bl bh } in
+        let ck : Checked (controlBegin a Normal 64 s phaseIn) buf = record { addr = ha; low = omega arith; high = omega arith; kind = setup-typed lo hi bl bh } in
         record {
-          begun = record { fields = control a Normal 64 s phaseIn; buffer = buf };
+          begun = record { fields = controlBegin a Normal 64 s phaseIn; buffer = buf };
           entries-are =
               ap (λ (r : List Entry). setupEntry a s ∷ r) (ap (map (outEntry a 0)) (cut-is FixedSize 64 true [] ∙ cut-last FixedSize 64 false true [] (omega arith) refl))
               ∙ ap (λ (x : Entry). x ∷ group a 0 true [] []) (setup-back a lo hi bl bh)
@@ -141,15 +140,15 @@ module _ (m log : List ℕ) (fits : lentFits m log ≡ true) (mb : Bytes m) (lw 
           run = λ later gs free. run-in m log fits mb lw later gs free a Normal 64 s buf (zeros n) ck (let e = length-replicate {A = ℕ} n 0 in omega arith);
         }
 
-    choose-out : (xs : List (List ℕ)) (l : List ℕ) (z : G.Sizes xs l) → length (bytes xs l) ≡ lengthIn hi → 1 ≤ length l → Choice (G.control a lo hi (G.some xs l))
+    choose-out : (xs : List (List ℕ)) (l : List ℕ) (z : Sizes xs l) → length (groupBytes xs l) ≡ wLengthIn hi → 1 ≤ length l → Choice (controlPart a lo hi (oneGroup xs l))
     choose-out xs l z q ne =
         let s = setupOf lo hi in
         let p = z .p in
-        let buf = bytes xs l in
-        let ck : Checked (control a Normal p s phaseOut) buf = record { addr = ha; low = z .low; high = z .high; kind = setup-typed lo hi bl bh } in
+        let buf = groupBytes xs l in
+        let ck : Checked (controlBegin a Normal p s phaseOut) buf = record { addr = ha; low = z .low; high = z .high; kind = setup-typed lo hi bl bh } in
         let e : length buf ≡ s .wLength = q ∙ sym (length-of lo hi) in
         record {
-          begun = record { fields = control a Normal p s phaseOut; buffer = buf };
+          begun = record { fields = controlBegin a Normal p s phaseOut; buffer = buf };
           entries-are =
               ap (λ (r : List ℕ). setupEntry a s ∷ map (outEntry a 0) (outCut FixedSize p true r)) (take-all (s .wLength) buf (omega arith))
               ∙ ap₂ {C = List Entry} (λ (x : Entry) (r : List Entry). x ∷ r) (setup-back a lo hi bl bh)
@@ -157,14 +156,14 @@ module _ (m log : List ℕ) (fits : lentFits m log ≡ true) (mb : Bytes m) (lw 
           run = λ later gs free. run-out m log fits mb lw later gs free a Normal p s buf (z .are) ck (omega arith);
         }
 
-  choose-sent : (a : ℕ) (lo hi : Four) (s : Sent) → a ≤ 127 → FourBytes lo → FourBytes hi → SentFits hi s → Choice (G.control a lo hi s)
-  choose-sent a lo hi G.none h bl bh f = choose-none a lo hi h bl bh
-  choose-sent a lo hi (G.some xs l) h bl bh (inl q) = choose-empty a lo hi h bl bh xs l (q .0) (q .1)
-  choose-sent a lo hi (G.some xs l) h bl bh (inr q) = choose-out a lo hi h bl bh xs l (q .0) (omega (arith, q .1)) (q .2)
+  choose-sent : (a : ℕ) (lo hi : Four) (s : Sent) → a ≤ 127 → FourBytes lo → FourBytes hi → SentFits hi s → Choice (controlPart a lo hi s)
+  choose-sent a lo hi noGroup h bl bh f = choose-none a lo hi h bl bh
+  choose-sent a lo hi (oneGroup xs l) h bl bh (inl q) = choose-empty a lo hi h bl bh xs l (q .0) (q .1)
+  choose-sent a lo hi (oneGroup xs l) h bl bh (inr q) = choose-out a lo hi h bl bh xs l (q .0) (omega (arith, q .1)) (q .2)
 
   choose : (q : Part) → Fits q → Choice q
-  choose (G.bulk a e b xs l) h = choose-bulk a e b xs l h
-  choose (G.control a lo hi s) h = choose-sent a lo hi s (h .0) (h .1) (h .2) (h .3)
+  choose (bulkPart a e b xs l) h = choose-bulk a e b xs l h
+  choose (controlPart a lo hi s) h = choose-sent a lo hi s (h .0) (h .1) (h .2) (h .3)
 
   -- ---- a list for a list of parts
 
@@ -172,7 +171,7 @@ module _ (m log : List ℕ) (fits : lentFits m log ≡ true) (mb : Bytes m) (lw 
     calls : List Call
     begun : List Begun
     free : Free calls begun
-    is : armedByAll begun ≡ written qs
+    is : armedByAll begun ≡ partsEntries qs
 
   find : (qs : List Part) → AllFit qs → Found qs
   unfolding begunFrom UnbrokenFrom
@@ -206,16 +205,16 @@ log-words = zero-words 192
 pub record CallsFor (f : File) (r : List Entry) : Type 0 where
   pub calls : List Call
   pub typed : AllTyped calls
-  pub premises : UnbrokenFrom none 0 unarmed f fresh calls
+  pub premises : UnbrokenFrom noTransfer 0 notArmed f fresh calls
   pub is : entriesFrom f fresh calls ≡ r
 
 pub calls-for : (f : File) (r : List Entry) → PlainReading r → CallsFor f r
 calls-for f r h =
     let k = find memory log lent-enough memory-bytes log-words (h .parts) (h .fit) in
-    let p = k .free .premises 0 unarmed f fresh refl in
+    let p = k .free .premises 0 notArmed f fresh refl in
     record {
       calls = k .calls;
       typed = k .free .typed;
       premises = p;
-      is = record-of-begun (k .calls) 0 unarmed f fresh refl (k .free .typed) p ∙ ap armedByAll (k .free .begun fresh refl) ∙ k .is ∙ h .is;
+      is = record-of-begun (k .calls) 0 notArmed f fresh refl (k .free .typed) p ∙ ap armedByAll (k .free .begun fresh refl) ∙ k .is ∙ h .is;
     }

@@ -29,19 +29,23 @@ use Rattle.transfers.specs.Memory.{lentFits}
 use Rattle.transfers.specs.Outcome.{Outcome, toggleIn}
 use Rattle.transfers.specs.Step.{acts}
 use Rattle.transfers.specs.Calls.{stepIf, mayStep, stepLent, stepOf, cancelIf, eitherServes, cancelOf, Beginning, beginOr, beginsControl, beginControlOf, bulkRequest, beginsBulkIn, beginsBulkOut, beginBulkInOf, beginBulkOutOf}
-use Rattle.transfers.specs.Entries.{setupCount, outCount, armedCount, word, ends, entriesBegun, entriesStepped, entriesCancelled, failedStep, failedCancel}
+use Rattle.transfers.specs.Entries.{setupCount, outCount, armedCount, word, entriesBegun, entriesStepped, entriesCancelled, failedStep, failedCancel}
 use Rattle.transfers.specs.Driver.{fresh}
 use Rattle.record.specs.Grammar.{Entry}
-use Rattle.record.specs.Segments.{Element, entry, failed}
-use Rattle.record.specs.Wire.{File, performs, wire}
+use Rattle.record.specs.Segments.{Element, entry, failedEntry}
+use Rattle.record.specs.Wire.{File, wire}
 use Rattle.record.specs.Armed.{setupsArmed, outsArmed, entriesArmed}
-use Rattle.record.specs.Calls.{Begin, control, bulk, Call, begin, step, cancel, openPipe, closePipe, pollPipe, interrupt, detect, call, note, beginning}
+use Rattle.record.specs.Calls.{Begin, controlBegin, bulkBegin, Call, begin, step, cancel, openPipe, closePipe, pollPipe, interrupt, detect, call, beginning}
 use Rattle.record.specs.Asked.{AllTyped}
-use Rattle.record.specs.Told.{stepFails, fails}
-use Rattle.record.specs.Record.{since, failure, recordFrom, counted, answeredFrom, CountsTo}
+use Rattle.record.specs.Told.{ends, Note, stepped, broke, noteStep, note, Told, untold}
+use Rattle.record.specs.Fates.{underWay, fate}
+use Rattle.record.specs.Record.{failure, recordFrom, counted, answeredFrom, CountsTo}
+use Rattle.record.specs.Term3.{wireRecord}
+use Rattle.record.proofs.Heard.{since, breaks, after, hears-is}
 use Rattle.record.proofs.Beginning.{controlRefusal, bulkRefusal}
 use Rattle.record.proofs.Answered.{Known, tells-call}
-use Rattle.record.proofs.Bounded.{Bounded, bounded-small, control-bound, bulk-in-bound, bulk-out-bound, Shaped, acted}
+use Rattle.record.proofs.Bounded.{Bounded, under-bounded, bounded-small, control-bound, bulk-in-bound, bulk-out-bound, Shaped, acted}
+use Rattle.record.proofs.Agreed.{Agrees, call-agrees, countIf, call-failure}
 
 -- ---- the driver's count against the record's
 
@@ -68,36 +72,41 @@ record Right (t : Transfer) (e n′ : ℕ) (said : List Element) (told : List El
   says : told ≡ said
   small : CountsTo 65536 said
 
-abbrev StepRight : ℕ → ℕ → Outcome → Type 0
-StepRight e n o = Right (o .next) (entriesStepped (o .answer) e (o .armed)) (n + armedCount (o .armed)) (counted (failedStep (o .answer) e)) (failure (stepFails (o .answer)) (n + armedCount (o .armed)))
+abbrev StepRight : ℕ → ℕ → Sample → List ℕ → Outcome → Type 0
+StepRight e n y buf o =
+    let k = noteStep (o .answer) y buf in
+    let i = since k n (armedCount (o .armed)) in
+    Right (o .next) (entriesStepped (o .answer) e (o .armed)) i (counted (failedStep (o .answer) e)) (countIf (breaks k) i)
 
-acted-right : (e n : ℕ) (a : StepAnswer) (t : Transfer) (am : Armed) → e ≡ n → n ≤ 65536 → Shaped n a t am
-    → Right t (entriesStepped a e am) (n + armedCount am) (counted (failedStep a e)) (failure (stepFails a) (n + armedCount am))
-acted-right e n (Waiting again) t am h s k = record { count = count-word t (word (e + armedCount am)) (n + armedCount am) (ap (λ (i : ℕ). word (i + armedCount am)) h) k; says = refl; small = tt }
-acted-right e n (Done j) t am h s k = record { count = subst (λ (u : Transfer). Count u 0 (n + armedCount am)) (sym k) tt; says = refl; small = tt }
-acted-right e n (Refused why) t am h s k = by (ends why) (k .0)
+acted-right : (e n : ℕ) (y : Sample) (buf : List ℕ) (a : StepAnswer) (t : Transfer) (am : Armed) → e ≡ n → n ≤ 65536 → Shaped n a t am
+    → let k = noteStep a y buf in Right t (entriesStepped a e am) (since k n (armedCount am)) (counted (failedStep a e)) (countIf (breaks k) (since k n (armedCount am)))
+acted-right e n y buf (Waiting again) t am h s k = record { count = count-word t (word (e + armedCount am)) (n + armedCount am) (ap (λ (i : ℕ). word (i + armedCount am)) h) (under-bounded (n + armedCount am) t k); says = refl; small = tt }
+acted-right e n y buf (Done j) t am h s k = record { count = subst (λ (u : Transfer). Count u 0 0) (sym k) tt; says = refl; small = tt }
+acted-right e n y buf (Refused why) t am h s k = by (ends why) (k .0)
   where
-    by : (v : Bool) → v ≡ true → Right t (cond v 0 e) (n + armedCount am) (counted (cond v (someCount e) noCount)) (failure v (n + armedCount am))
+    by : (v : Bool) → v ≡ true
+        → let u : Note = cond v broke (stepped false y buf) in
+        Right t (cond v 0 e) (since u n (armedCount am)) (counted (cond v (someCount e) noCount)) (countIf (breaks u) (since u n (armedCount am)))
     by false q = absurd (let z : _≡_ {A = ℕ} 0 1 = cc in omega arith)
     by true q = record {
       count = subst (λ (u : Transfer). Count u 0 (n + armedCount am)) (sym (k .1)) tt;
-      says = let z : armedCount am ≡ 0 = ap armedCount (k .2) in ap (λ (i : ℕ). failed i ∷ []) (let y : n + armedCount am ≡ e = omega arith in y);
+      says = let z : armedCount am ≡ 0 = ap armedCount (k .2) in ap (λ (i : ℕ). failedEntry i ∷ []) (let y : n + armedCount am ≡ e = omega arith in y);
       small = (omega arith, tt);
     }
 
-step-right : (e n : ℕ) (b : Bool) (t : Transfer) (y : Sample) (buf m log : List ℕ) → Count t e n → StepRight e n (stepOf b t y buf m log)
+step-right : (e n : ℕ) (b : Bool) (t : Transfer) (y : Sample) (buf m log : List ℕ) → Count t e n → StepRight e n y buf (stepOf b t y buf m log)
 unfolding stepOf
 step-right e n b t y buf m log c = at (lentFits m log) t c
   where
-    at : (p : Bool) (t : Transfer) → Count t e n → StepRight e n (stepLent p b t y buf m)
+    at : (p : Bool) (t : Transfer) → Count t e n → StepRight e n y buf (stepLent p b t y buf m)
     at false t c = record { count = count-none t e n c; says = refl; small = tt }
     at true Idle c = record { count = tt; says = refl; small = tt }
     at true (Busy r) c = by (mayStep b r) (eqb (length buf) (r .request .length))
       where
-        by : (p q : Bool) → StepRight e n (stepIf p q r y buf m)
+        by : (p q : Bool) → StepRight e n y buf (stepIf p q r y buf m)
         by false q = record { count = count-none (Busy r) e n c; says = refl; small = tt }
         by true false = record { count = count-none (Busy r) e n c; says = refl; small = tt }
-        by true true = let o = acts (r .request) (r .stage) y buf m in acted-right e n (o .answer) (o .next) (o .armed) (c .0) (bounded-small n r (c .1)) (acted n (r .request) (r .stage) y buf m (c .1))
+        by true true = let o = acts (r .request) (r .stage) y buf m in acted-right e n y buf (o .answer) (o .next) (o .armed) (c .0) (bounded-small n r (c .1)) (acted n (r .request) (r .stage) y buf m (c .1))
 
 -- ---- begins
 
@@ -113,31 +122,31 @@ begun-right x buf m log e n t None o q h c =
 
 begin-right : (t : Transfer) (x : Begin) (buf m log : List ℕ) (e n : ℕ) → Count t e n → BeginCount x buf m log e n (beginning t x buf m log)
 unfolding beginControlOf beginBulkInOf beginBulkOutOf
-begin-right t (control a z p s ph) buf m log e n c =
-    begun-right (control a z p s ph) buf m log e n t (controlRefusal t a p m log) (beginsControl a z p s ph (length buf) m) refl (control-bound a z p s ph (length buf) m) c
-begin-right t (bulk In a ep p k b) buf m log e n c =
+begin-right t (controlBegin a z p s ph) buf m log e n c =
+    begun-right (controlBegin a z p s ph) buf m log e n t (controlRefusal t a p m log) (beginsControl a z p s ph (length buf) m) refl (control-bound a z p s ph (length buf) m) c
+begin-right t (bulkBegin In a ep p k b) buf m log e n c =
     let x = bulkRequest In a ep p b (length buf) in
-    begun-right (bulk In a ep p k b) buf m log e n t (bulkRefusal t a ep p buf m log) (beginsBulkIn x k m) refl (bulk-in-bound x k m) c
-begin-right t (bulk Out a ep p k b) buf m log e n c =
+    begun-right (bulkBegin In a ep p k b) buf m log e n t (bulkRefusal t a ep p buf m log) (beginsBulkIn x k m) refl (bulk-in-bound x k m) c
+begin-right t (bulkBegin Out a ep p k b) buf m log e n c =
     let x = bulkRequest Out a ep p b (length buf) in
-    begun-right (bulk Out a ep p k b) buf m log e n t (bulkRefusal t a ep p buf m log) (beginsBulkOut x ep k buf m) refl (bulk-out-bound x ep k buf m) c
+    begun-right (bulkBegin Out a ep p k b) buf m log e n t (bulkRefusal t a ep p buf m log) (beginsBulkOut x ep k buf m) refl (bulk-out-bound x ep k buf m) c
 
-begin-says : (x : Begin) (buf m log : List ℕ) (a : BeginAnswer) → fails (note (begin x buf m log) a) ≡ false
+begin-says : (x : Begin) (buf m log : List ℕ) (a : BeginAnswer) → breaks (note (begin x buf m log) a) ≡ false
 begin-says x buf m log accepted = refl
 begin-says x buf m log (refusedBegin why) = refl
 
 -- ---- cancel
 
 cancel-right : (t : Transfer) (e n : ℕ) → Count t e n
-    → let o = cancelOf t in Right (o .next) (entriesCancelled (o .answer) e) (since (note cancel (o .answer)) n 0) (counted (failedCancel (o .answer) e)) (failure (fails (note cancel (o .answer))) (since (note cancel (o .answer)) n 0))
+    → let o = cancelOf t in Right (o .next) (entriesCancelled (o .answer) e) (since (note cancel (o .answer)) n 0) (counted (failedCancel (o .answer) e)) (countIf (breaks (note cancel (o .answer))) (since (note cancel (o .answer)) n 0))
 unfolding cancelOf
 cancel-right Idle e n c = record { count = tt; says = refl; small = tt }
 cancel-right (Busy r) e n c = by (eitherServes r)
   where
     by : (b : Bool) → let o = cancelIf b (Busy r) (toggleIn (r .request .kind)) in
-        Right (o .next) (entriesCancelled (o .answer) e) (since (note cancel (o .answer)) n 0) (counted (failedCancel (o .answer) e)) (failure (fails (note cancel (o .answer))) (since (note cancel (o .answer)) n 0))
+        Right (o .next) (entriesCancelled (o .answer) e) (since (note cancel (o .answer)) n 0) (counted (failedCancel (o .answer) e)) (countIf (breaks (note cancel (o .answer))) (since (note cancel (o .answer)) n 0))
     by false = record { count = count-none (Busy r) e n c; says = refl; small = tt }
-    by true = record { count = tt; says = ap (λ (i : ℕ). failed i ∷ []) (add-zero n ∙ sym (c .0)); small = (let s = bounded-small n r (c .1) in let q = c .0 in omega arith, tt) }
+    by true = record { count = tt; says = ap (λ (i : ℕ). failedEntry i ∷ []) (add-zero n ∙ sym (c .0)); small = (let s = bounded-small n r (c .1) in let q = c .0 in omega arith, tt) }
 
 -- ---- every call and every list
 
@@ -158,7 +167,7 @@ abbrev CallRight : Driver → Call → ℕ → ℕ → Type 0
 CallRight d c n j =
     let o = call d c in
     let t = note c (o .answer) in
-    Right (o .next .transfer) (o .next .entries) (since t n j) (counted (o .failed)) (failure (fails t) (since t n j))
+    Right (o .next .transfer) (o .next .entries) (since t n j) (counted (o .failed)) (countIf (breaks t) (since t n j))
 
 call-right : (c : Call) (d : Driver) (n : ℕ) → Count (d .transfer) (d .entries) n → CallRight d c n (armedCount (call d c .armed))
 unfolding call
@@ -166,7 +175,7 @@ call-right (begin x buf m log) d n c =
     let o = beginning (d .transfer) x buf m log in
     record {
       count = begin-right (d .transfer) x buf m log (d .entries) n c;
-      says = ap (λ (v : Bool). failure v (since (note (begin x buf m log) (o .answer)) n (armedCount (o .armed)))) (begin-says x buf m log (o .answer));
+      says = ap (λ (v : Bool). countIf v (since (note (begin x buf m log) (o .answer)) n (armedCount (o .armed)))) (begin-says x buf m log (o .answer));
       small = tt;
     }
 call-right (step b y buf m log) d n c = let r = step-right (d .entries) n b (d .transfer) y buf m log c in record { count = r .count; says = r .says; small = r .small }
@@ -177,20 +186,25 @@ call-right (pollPipe k y m log) d n c = record { count = count-none (d .transfer
 call-right (interrupt ints status log) d n c = record { count = count-none (d .transfer) (d .entries) n c; says = refl; small = tt }
 call-right (detect sie log) d n c = record { count = count-none (d .transfer) (d .entries) n c; says = refl; small = tt }
 
-answered-elements : (cs : List Call) (f : File) (d : Driver) (n : ℕ) → AllTyped cs → Known f (d .transfer) → Count (d .transfer) (d .entries) n → recordFrom f d n cs ≡ answeredFrom d cs
+answered-elements : (cs : List Call) (t : Told) (d : Driver) → AllTyped cs → Known (t .file) (d .transfer) → Count (d .transfer) (d .entries) (t .armings) → Agrees (t .live) (d .transfer)
+    → recordFrom t d cs ≡ answeredFrom d cs
 unfolding recordFrom answeredFrom
-answered-elements [] f d n ty i c = refl
-answered-elements (x ∷ cs) f d n ty i c =
+answered-elements [] t d ty i c a = refl
+answered-elements (x ∷ cs) t d ty i c a =
     let o = call d x in
+    let f = t .file in
     let k = tells-call x d f (ty .0) i in
     let j : length (wire f (o .writes) (o .memory)) ≡ armedCount (o .armed) = ap length (k .is) ∙ length-armed (o .memory) (o .armed) in
-    let r : CallRight d x n (length (wire f (o .writes) (o .memory))) = subst (CallRight d x n) (sym j) (call-right x d n c) in
-    ap₂ {C = List Element} _++_ (ap (map entry) (k .is))
-    (ap₂ {C = List Element} _++_ (r .says) (answered-elements cs (performs f (o .writes)) (o .next) (since (note x (o .answer)) n (length (wire f (o .writes) (o .memory)))) (ty .1) (k .known) (r .count)))
+    let r : CallRight d x (t .armings) (length (wire f (o .writes) (o .memory))) = subst (CallRight d x (t .armings)) (sym j) (call-right x d (t .armings) c) in
+    let g = fate (note x (o .answer)) (underWay (t .live)) in
+    subst (λ (u : Told). map entry (wire f (o .writes) (o .memory)) ++ (failure g (u .armings) ++ recordFrom u (o .next) cs) ≡ answeredFrom d (x ∷ cs)) (hears-is t x o)
+    (ap₂ {C = List Element} _++_ (ap (map entry) (k .is))
+    (ap₂ {C = List Element} _++_ (call-failure x d (t .live) (after t x o .armings) a ∙ r .says)
+    (answered-elements cs (after t x o) (o .next) (ty .1) (k .known) (r .count) (call-agrees x d (t .live) a))))
 
 -- What begin, step and cancel answer is the record of version 2. No premise.
-pub answered : (f : File) (cs : List Call) → AllTyped cs → recordFrom f fresh 0 cs ≡ answeredFrom fresh cs
-answered f cs ty = answered-elements cs f fresh 0 ty tt tt
+pub answered : (f : File) (cs : List Call) → AllTyped cs → wireRecord f cs ≡ answeredFrom fresh cs
+answered f cs ty = answered-elements cs (untold f) fresh ty tt tt tt
 
 -- ---- no count is above 65,536
 
@@ -215,5 +229,5 @@ small-from (x ∷ cs) d n c =
 pub answered-small : (cs : List Call) → CountsTo 65536 (answeredFrom fresh cs)
 answered-small cs = small-from cs fresh 0 tt
 
-pub counts-small : (f : File) (cs : List Call) → AllTyped cs → CountsTo 65536 (recordFrom f fresh 0 cs)
+pub counts-small : (f : File) (cs : List Call) → AllTyped cs → CountsTo 65536 (wireRecord f cs)
 counts-small f cs ty = subst (CountsTo 65536) (sym (answered f cs ty)) (answered-small cs)

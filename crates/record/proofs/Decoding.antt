@@ -9,9 +9,9 @@ use lib.ListN.{length, take, drop, getD, length-append, take-append-drop, length
 use lib.Seq.{drop-cons, drop-drop, length-take-le, drop-append-seam}
 use lib.Dec.{eqb, leb}
 use borrow.Author.Tests.{ne-eqb, le-leb}
-use Rattle.record.specs.Grammar.{four, Entry, setup, out, lengthIn, Bytes}
-use Rattle.record.specs.Segments.{Element, entry, failed}
-use Rattle.record.specs.Bytes.{bit, encode, failedBytes, encodeElement}
+use Rattle.record.specs.Grammar.{four, Entry, setup, out, wLengthIn, Bytes}
+use Rattle.record.specs.Segments.{Element, entry, failedEntry}
+use Rattle.record.specs.Bytes.{flagByte, encode, failedBytes, encodeElement}
 use Rattle.record.specs.Scan.{InRange}
 use Rattle.record.specs.Place.{feedElement, runAfter, countAfter, ElementInRange}
 use Rattle.record.specs.Reader.{lookSetup, fieldsFit, lookOut, lookFailed, look, goOn, turnLook, turnOf}
@@ -24,18 +24,18 @@ use Rattle.record.proofs.Puts.{countHalves, count-halves}
 
 -- What the reader sees of an entry.
 abbrev pub lookOf : Entry → Look
-lookOf (setup a lo hi) = Setup a (lengthIn hi)
+lookOf (setup a lo hi) = Setup a (wLengthIn hi)
 lookOf (out a e b last l) = Out (record { address = a; endpoint = e; pid = b; last = last; length = length l })
 
-bit-is : (b : Bool) → eqb (bit b) 1 ≡ b
+bit-is : (b : Bool) → eqb (flagByte b) 1 ≡ b
 bit-is true = refl
 bit-is false = refl
 
-bit-low : (b : Bool) → leb (bit b) 1 ≡ true
+bit-low : (b : Bool) → leb (flagByte b) 1 ≡ true
 bit-low true = refl
 bit-low false = refl
 
-fits : (a e : ℕ) (b last : Bool) (n : ℕ) → a ≤ 127 → e ≤ 15 → n ≤ 64 → fieldsFit a e (bit b) (bit last) n ≡ true
+fits : (a e : ℕ) (b last : Bool) (n : ℕ) → a ≤ 127 → e ≤ 15 → n ≤ 64 → fieldsFit a e (flagByte b) (flagByte last) n ≡ true
 unfolding fieldsFit
 fits a e b last n ha he hn = rw (le-leb a 127 ha, le-leb e 15 he, bit-low b, bit-low last, le-leb n 64 hn)
 
@@ -47,10 +47,10 @@ see-setup a b0 b1 b2 b3 b4 b5 b6 b7 post h =
     rw (ne-eqb (length l) 0 (λ (z : length l ≡ 0). omega arith), le-leb 10 (length l) (omega arith), le-leb a 127 h)
 
 see-out : (a e : ℕ) (b last : Bool) (m post : List ℕ) → a ≤ 127 → e ≤ 15 → length m ≤ 64
-    → look (0x4F ∷ a ∷ e ∷ bit b ∷ bit last ∷ length m ∷ (m ++ post)) ≡ Out (record { address = a; endpoint = e; pid = b; last = last; length = length m })
+    → look (0x4F ∷ a ∷ e ∷ flagByte b ∷ flagByte last ∷ length m ∷ (m ++ post)) ≡ Out (record { address = a; endpoint = e; pid = b; last = last; length = length m })
 unfolding look lookOut
 see-out a e b last m post ha he hm =
-    let l : List ℕ = 0x4F ∷ a ∷ e ∷ bit b ∷ bit last ∷ length m ∷ (m ++ post) in
+    let l : List ℕ = 0x4F ∷ a ∷ e ∷ flagByte b ∷ flagByte last ∷ length m ∷ (m ++ post) in
     let k = length-append m post in
     rw (ne-eqb (length l) 0 (λ (z : length l ≡ 0). omega arith), le-leb 6 (length l) (omega arith), fits a e b last (length m) ha he hm, le-leb (6 + length m) (length l) (omega arith), bit-is b, bit-is last)
 
@@ -73,7 +73,7 @@ value-back n =
 -- What the reader sees of an entry of version 2.
 abbrev pub lookElement : Element → Look
 lookElement (entry e) = lookOf e
-lookElement (failed m) = Failed m
+lookElement (failedEntry m) = Failed m
 
 pub see-failed : (m : ℕ) (post : List ℕ) → look (failedBytes m ++ post) ≡ Failed m
 unfolding look lookFailed
@@ -86,7 +86,7 @@ see-failed m post = ap (λ (l : List ℕ). look (l ++ post)) (count-halves m) �
 
 pub look-element : (m : Element) (post : List ℕ) → ElementInRange m → look (encodeElement m ++ post) ≡ lookElement m
 look-element (entry e) post h = look-encode e post h
-look-element (failed m) post h = see-failed m post
+look-element (failedEntry m) post h = see-failed m post
 
 pub drop-element : (m : Element) (post : List ℕ) → drop (length (encodeElement m)) (encodeElement m ++ post) ≡ post
 drop-element m post = drop-append-seam (encodeElement m) post
@@ -98,7 +98,7 @@ turn-look two (entry (out a e b last l)) p v =
     let z : 6 + length l ≡ length (encode (out a e b last l)) = omega arith in
     let m = entry (out a e b last l) in
     ap (λ (n : ℕ). goOn (feedElement (p .scan) (p .run) m) (p .at + n) (runAfter (p .scan) (p .run) m) (countAfter (p .scan) (p .count) m)) z
-turn-look two (failed m) p v = ap (λ (b : Bool). turnLook b (Failed m) p) v
+turn-look two (failedEntry m) p v = ap (λ (b : Bool). turnLook b (Failed m) p) v
 
 -- The turn at an entry's encoding feeds the entry.
 pub turn-element : (s : List ℕ) (two : Bool) (p : Progress) (m : Element) (post : List ℕ) → drop (p .at) s ≡ encodeElement m ++ post → ElementInRange m → OfVersion two m
@@ -147,7 +147,7 @@ setup-decoded two l b k h a = record {
       ∙ ap (λ (n : ℕ). n ∷ getD l 1 0 ∷ getD l 2 0 ∷ getD l 3 0 ∷ getD l 4 0 ∷ getD l 5 0 ∷ getD l 6 0 ∷ getD l 7 0 ∷ getD l 8 0 ∷ getD l 9 0 ∷ drop 10 l) k;
 }
 
-bit-back : (n : ℕ) → n ≤ 1 → n ≡ bit (eqb n 1)
+bit-back : (n : ℕ) → n ≤ 1 → n ≡ flagByte (eqb n 1)
 bit-back zero h = refl
 bit-back (suc zero) h = refl
 bit-back (suc (suc n)) h = absurd (omega arith)
@@ -194,7 +194,7 @@ failed-decoded l b k h =
     let e₄ : u ≡ v / 65536 / 256 = sym (ap (λ (n : ℕ). n / 256) hi ∙ high z u hz) in
     record {
       version = refl;
-      element = failed v;
+      element = failedEntry v;
       ranged = omega arith;
       rest = drop 5 l;
       is =

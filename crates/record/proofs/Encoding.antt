@@ -8,7 +8,8 @@ use native.Mathlib.Omega.{arith}
 use lib.ListN.{length, take, drop, length-append, length-take, length-drop}
 use lib.Dec.{eqb, leb}
 use borrow.Author.Tests.{leb-true}
-use Rattle.transfers.specs.Memory.{slotAddress}
+use Rattle.record.specs.Chip.{slotPlace}
+use Rattle.record.proofs.Chips.{same-slot}
 use Rattle.transfers.proofs.Stores.{slot-inside}
 use Rattle.transfers.specs.declared.answers.Armed.{Armed}
 use Rattle.transfers.specs.declared.answers.OptionEntries.{OptionEntries}
@@ -53,8 +54,8 @@ unfolding encodeElements
 element-one m = append-nil (encodeElement m)
 
 -- The bytes of a slot, at most 64, are there.
-pub slot-length : (pm : List ℕ) (slot : Bool) (n : ℕ) → length pm ≡ 4096 → n ≤ 64 → length (take n (drop (slotAddress slot) pm)) ≡ n
-slot-length pm slot n e h = simp (length-take, length-drop) (omega (arith, slot-inside slot))
+pub slot-length : (pm : List ℕ) (slot : Bool) (n : ℕ) → length pm ≡ 4096 → n ≤ 64 → length (take n (drop (slotPlace slot) pm)) ≡ n
+slot-length pm slot n e h = simp (length-take, length-drop) (omega (arith, slot-inside slot, same-slot slot))
 
 pub setup-size : (s : OptionSetup) → length (encodeAll (setupsArmed s)) ≡ setupSize s
 unfolding encodeAll

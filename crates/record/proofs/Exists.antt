@@ -22,7 +22,8 @@ use Rattle.transfers.specs.declared.wire.SetupPacket.{SetupPacket}
 use Rattle.transfers.specs.declared.wire.Direction.the-variants.{In, Out}
 use Rattle.transfers.specs.declared.answers.BeginAnswer.{BeginAnswer}
 use Rattle.transfers.specs.declared.answers.BeginAnswer.the-variants.{Begun as accepted}
-use Rattle.transfers.specs.declared.answers.StepAnswer.the-variants.{Done}
+use Rattle.transfers.specs.declared.answers.StepAnswer.{StepAnswer}
+use Rattle.transfers.specs.declared.answers.StepAnswer.the-variants.{Waiting, Done, Refused}
 use Rattle.transfers.specs.declared.answers.Armed.{Armed}
 use Rattle.transfers.specs.declared.sample.Sample.{Sample}
 use Rattle.transfers.specs.declared.sample.Poll.{Poll}
@@ -53,13 +54,15 @@ use Rattle.record.specs.Grammar.{Bytes}
 use Rattle.record.specs.Wire.{File, performs, Event, events}
 use Rattle.transfers.specs.Entries.{armedCount, entriesBegun, entriesStepped}
 use Rattle.transfers.specs.Driver.{fresh, withTransfer}
-use Rattle.record.specs.Calls.{Begin, control, bulk, Call, begin, step, beginning, call, note}
+use Rattle.record.specs.Calls.{Begin, controlBegin, bulkBegin, Call, begin, step, beginning, call}
 use Rattle.record.specs.Asked.{Words, TypedSample, TypedBegin, AllTyped, Begun}
+use Rattle.record.specs.Told.{noTransfer, live, Watch, notArmed, inSlot, taken, seen, marks, finds, ends, stepped, broke, noteStep, note}
+use Rattle.record.specs.Premises.{sendsNext, LentIts, LentIf, TakenIf, CallGood}
 use Rattle.record.specs.Fates.{begunBy, begunFrom}
-use Rattle.record.specs.Told.{none, live, Watch, unarmed, armed, taken, seen, marks, isComplete, finds, stepLive, stepWatch, stepCount, stepFails, nextLive, nextWatch, nextCount, fails}
-use Rattle.record.specs.Premises.{sendsNext, LentIts, TakenIf, StepGood, CallGood}
+use Rattle.record.proofs.Heard.{nextLive, nextWatch, nextCount, breaks}
 use Rattle.record.proofs.Unbroken.{UnbrokenFrom}
 use Rattle.record.proofs.Logs.{Silent, silent-nil, silent-enable}
+use Rattle.record.proofs.Chips.{isComplete, finds-is}
 use Rattle.record.proofs.Stages.{between, startLog, heads, out-two, armEvents}
 use Rattle.record.proofs.Arming.{Packets, evOf, none-cons, Two, two, two-alike}
 use Rattle.record.proofs.Cuts.{all-cut}
@@ -93,8 +96,8 @@ done-typed = (omega arith, omega arith, omega arith)
 -- ---- the watch
 
 abbrev IsSet : Watch → Type 0
-IsSet unarmed = ⊥
-IsSet (armed s) = Unit {0}
+IsSet notArmed = ⊥
+IsSet (inSlot s) = Unit {0}
 IsSet taken = Unit {0}
 
 -- The last packet is marked.
@@ -105,7 +108,7 @@ Record (packet s b false l ∷ ks) = (ks ≡ [] → ⊥) × Record ks
 
 set-marks : (new rest : Packets) (w : Watch) → Record (new ++ rest) → (new ++ rest ≡ [] → IsSet w) → rest ≡ [] → IsSet (marks w (map evOf new))
 set-marks [] rest w q h e = h e
-set-marks (packet s b true l ∷ new) rest w q h e = set-marks new rest (armed s) q (λ r. tt) e
+set-marks (packet s b true l ∷ new) rest w q h e = set-marks new rest (inSlot s) q (λ r. tt) e
 set-marks (packet s b false l ∷ new) rest w q h e = set-marks new rest w (q .1) (λ r. absurd (q .0 r)) e
 
 marked-after : (new rest : Packets) → Record (new ++ rest) → Record rest
@@ -114,15 +117,15 @@ marked-after (packet s b true l ∷ new) rest q = marked-after new rest q
 marked-after (packet s b false l ∷ new) rest q = marked-after new rest (q .1)
 
 seen-taken : (w : Watch) → IsSet w → seen w doneSample ≡ taken
-seen-taken unarmed h = absurd h
-seen-taken (armed true) h = refl
-seen-taken (armed false) h = refl
+seen-taken notArmed h = absurd h
+seen-taken (inSlot true) h = refl
+seen-taken (inSlot false) h = refl
 seen-taken taken h = refl
 
 set-seen : (w : Watch) → IsSet w → IsSet (seen w moveSample)
-set-seen unarmed h = h
-set-seen (armed true) h = tt
-set-seen (armed false) h = tt
+set-seen notArmed h = h
+set-seen (inSlot true) h = tt
+set-seen (inSlot false) h = tt
 set-seen taken h = tt
 
 -- ---- a cutting has a packet, and its last one is marked
@@ -142,22 +145,22 @@ cut-marked : (t : TransferType) (p : ℕ) (b : Bool) (l : List ℕ) → Record (
 unfolding outCut
 cut-marked t p b l = numbered-marked false b (deal (lengths t p (length l)) l)
 
-cut-some : (t : TransferType) (p : ℕ) (b : Bool) (l : List ℕ) → 0 < p → outCut t p b l ≡ [] → ⊥
+pub cut-some : (t : TransferType) (p : ℕ) (b : Bool) (l : List ℕ) → 0 < p → outCut t p b l ≡ [] → ⊥
 unfolding outCut
 cut-some t p b l h = numbered-some false b (deal (lengths t p (length l)) l) (deal-none (lengths t p (length l)) l ∙ lengths-some t p (length l) h)
 
 -- ---- premises
 
 lent-own : (x : Begin) (buf : List ℕ) → LentIts (live x buf) buf
-lent-own (control a z p s phaseIn) buf = tt
-lent-own (control a z p s phaseOut) buf = refl
-lent-own (control a z p s phaseNone) buf = tt
-lent-own (bulk In a e p t b) buf = tt
-lent-own (bulk Out a e p t b) buf = refl
+lent-own (controlBegin a z p s phaseIn) buf = tt
+lent-own (controlBegin a z p s phaseOut) buf = refl
+lent-own (controlBegin a z p s phaseNone) buf = tt
+lent-own (bulkBegin In a e p t b) buf = tt
+lent-own (bulkBegin Out a e p t b) buf = refl
 
-not-taken : (b : Bool) (w : Watch) → TakenIf (b && false) w
-not-taken true w = tt
-not-taken false w = tt
+lent-if : (x : Begin) (buf : List ℕ) (es : List Event) → LentIf es (live x buf) buf
+lent-if x buf [] = tt
+lent-if x buf (e ∷ es) = lent-own x buf
 
 -- Nothing is under way.
 abbrev pub Rest : Driver → Type 0
@@ -166,13 +169,22 @@ Rest d = d .transfer ≡ Idle
 -- A list that meets the premises from every driver with nothing under way, whatever was counted, watched and written before; and the transfers that it begins.
 pub record Free (cs : List Call) (gs : List Begun) : Type 0 where
   pub typed : AllTyped cs
-  pub premises : (n : ℕ) (w : Watch) (f : File) (d : Driver) → Rest d → UnbrokenFrom none n w f d cs
+  pub premises : (n : ℕ) (w : Watch) (f : File) (d : Driver) → Rest d → UnbrokenFrom noTransfer n w f d cs
   pub begun : (d : Driver) → Rest d → begunFrom d cs ≡ gs
 
 -- A transfer in front of a list.
 pub record Run (g : Begun) (gs : List Begun) : Type 0 where
   pub calls : List Call
   pub free : Free calls (g ∷ gs)
+
+none-begun : (a : StepAnswer) (y : Sample) (now : List ℕ) → begunBy (noteStep a y now) ≡ []
+none-begun (Waiting again) y now = refl
+none-begun (Done k) y now = refl
+none-begun (Refused why) y now = by (ends why)
+  where
+    by : (v : Bool) → begunBy (cond v broke (stepped false y now)) ≡ []
+    by true = refl
+    by false = refl
 
 module _ (m log : List ℕ) (fits : lentFits m log ≡ true) (mb : Bytes m) (lw : Words log) (later : List Call) (gs : List Begun) (free : Free later gs) where
   -- The calls of a transfer under way end it with a count, and the list goes on.
@@ -184,9 +196,9 @@ module _ (m log : List ℕ) (fits : lentFits m log ≡ true) (mb : Bytes m) (lw 
   -- The same after a step's outcome.
   record Goes (e : Driver) (x : Begin) (buf : List ℕ) (n : ℕ) (w : Watch) (f : File) (y : Sample) (o : Outcome) (cs : List Call) : Type 0 where
     typed : AllTyped cs
-    counts : stepFails (o .answer) ≡ false
-    good : StepGood (o .answer) (live x buf) n w y buf
-    premises : (k : ℕ) → UnbrokenFrom (stepLive (o .answer) (live x buf)) (stepCount (o .answer) y n) (marks (stepWatch (o .answer) w y) (events f (o .writes))) (performs f (o .writes)) (withTransfer e (o .next) k) cs
+    counts : breaks (noteStep (o .answer) y buf) ≡ false
+    good : CallGood (noteStep (o .answer) y buf) (live x buf) n w (events f (o .writes))
+    premises : (k : ℕ) → UnbrokenFrom (nextLive (noteStep (o .answer) y buf) (live x buf)) (nextCount (noteStep (o .answer) y buf) n) (nextWatch (noteStep (o .answer) y buf) w (events f (o .writes))) (performs f (o .writes)) (withTransfer e (o .next) k) cs
     begun : (k : ℕ) → begunFrom (withTransfer e (o .next) k) cs ≡ gs
 
   module _ (e : Driver) (x : Begin) (buf : List ℕ) (n : ℕ) (w : Watch) (f : File) where
@@ -195,33 +207,34 @@ module _ (m log : List ℕ) (fits : lentFits m log ≡ true) (mb : Bytes m) (lw 
     unfolding UnbrokenFrom begunFrom call
     fin-step b t y cs o bb ty q g = record {
       typed = ((ty, bb, mb, lw), g .typed);
-      premises = λ k. subst (λ (o : Outcome). (stepFails (o .answer) ≡ false) × StepGood (o .answer) (live x buf) n w y buf
-          × UnbrokenFrom (stepLive (o .answer) (live x buf)) (stepCount (o .answer) y n) (marks (stepWatch (o .answer) w y) (events f (o .writes))) (performs f (o .writes)) (withTransfer e (o .next) (entriesStepped (o .answer) k (o .armed))) cs) (sym q)
+      premises = λ k. subst (λ (o : Outcome). (breaks (noteStep (o .answer) y buf) ≡ false) × CallGood (noteStep (o .answer) y buf) (live x buf) n w (events f (o .writes))
+          × UnbrokenFrom (nextLive (noteStep (o .answer) y buf) (live x buf)) (nextCount (noteStep (o .answer) y buf) n) (nextWatch (noteStep (o .answer) y buf) w (events f (o .writes))) (performs f (o .writes)) (withTransfer e (o .next) (entriesStepped (o .answer) k (o .armed))) cs) (sym q)
           (g .counts, g .good, g .premises (entriesStepped (o .answer) k (o .armed)));
-      begun = λ k. subst (λ (o : Outcome). begunFrom (withTransfer e (o .next) (entriesStepped (o .answer) k (o .armed))) cs ≡ gs) (sym q) (g .begun (entriesStepped (o .answer) k (o .armed)));
+      begun = λ k. subst (λ (o : Outcome). begunBy (noteStep (o .answer) y buf) ++ begunFrom (withTransfer e (o .next) (entriesStepped (o .answer) k (o .armed))) cs ≡ gs) (sym q)
+          (ap (λ (l : List Begun). l ++ begunFrom (withTransfer e (o .next) (entriesStepped (o .answer) k (o .armed))) cs) (none-begun (o .answer) y buf) ∙ g .begun (entriesStepped (o .answer) k (o .armed)));
     }
 
     goes-wait : (y : Sample) (st : Stage) (again : Bool) (am : Armed) (ws : List Write) (m′ bf : List ℕ) (cs : List Call) (c : Bool) → finds y ≡ c
-        → TakenIf (sendsNext (live x buf) n && c) (seen w y)
-        → Fin e x buf (cond c (suc n) n) (marks (cond c unarmed (seen w y)) (events f ws)) (performs f ws) (busy x buf st) cs
+        → TakenIf (c && sendsNext (live x buf) n) (seen w y)
+        → Fin e x buf (cond c (suc n) n) (marks (cond c notArmed (seen w y)) (events f ws)) (performs f ws) (busy x buf st) cs
         → Goes e x buf n w f y (waits (requestOf x buf) st again am ws m′ bf) cs
     goes-wait y st again am ws m′ bf cs c q t h = record {
       typed = h .typed;
       counts = refl;
       begun = h .begun;
-      good = (lent-own x buf, subst (λ (v : Bool). TakenIf (sendsNext (live x buf) n && v) (seen w y)) (sym q) t);
-      premises = λ k. subst (λ (v : Bool). UnbrokenFrom (live x buf) (cond v (suc n) n) (marks (cond v unarmed (seen w y)) (events f ws)) (performs f ws)
+      good = (lent-if x buf (events f ws), subst (λ (v : Bool). TakenIf (v && sendsNext (live x buf) n) (seen w y)) (sym q) t);
+      premises = λ k. subst (λ (v : Bool). UnbrokenFrom (live x buf) (cond v (suc n) n) (marks (cond v notArmed (seen w y)) (events f ws)) (performs f ws)
           (withTransfer e (busy x buf st) k) cs) (sym q) (h .premises k);
     }
 
-    goes-done : (k : ℕ) (t : Bool) (ws : List Write) (bf : List ℕ) → TakenIf (sendsNext (live x buf) n && true) (seen w doneSample)
+    goes-done : (k : ℕ) (t : Bool) (ws : List Write) (bf : List ℕ) → TakenIf (true && sendsNext (live x buf) n) (seen w doneSample)
         → Goes e x buf n w f doneSample (after ws (ended (Done k) t m bf)) later
     goes-done k t ws bf h = record {
       typed = free .typed;
       counts = refl;
       begun = λ j. free .begun (withTransfer e Idle j) refl;
-      good = (lent-own x buf, subst (λ (v : Bool). TakenIf (sendsNext (live x buf) n && v) (seen w doneSample)) (sym (ap isComplete completing)) h);
-      premises = λ j. free .premises n (marks (stepWatch (Done k) w doneSample) (events f (ws ++ []))) (performs f (ws ++ [])) (withTransfer e Idle j) refl;
+      good = (lent-if x buf (events f (ws ++ [])), subst (λ (v : Bool). TakenIf (v && sendsNext (live x buf) n) (seen w doneSample)) (sym (finds-is doneSample ∙ ap isComplete completing)) h);
+      premises = λ j. free .premises 0 notArmed (performs f (ws ++ [])) (withTransfer e Idle j) refl;
     }
 
     keeps : (s : Bool) (y : Sample) (o : Outcome) (cs : List Call) → Goes e x buf n w f y (after quietened o) cs
@@ -304,8 +317,8 @@ module _ (m log : List ℕ) (fits : lentFits m log ≡ true) (mb : Bytes m) (lw 
         let a = two-alike 0 c j u m in
         let within : st .offset + st .remain ≤ stageLength X (st .status) = h .inside in
         fin-stage e x buf n w f b (busy x buf (outStage st)) moveSample (outRun b buf k tail) (st .status) (outMove X st 0 u m) bb move-typed (out-moves st q h)
-        (goes-wait e x buf n w f moveSample (outStage st′) true (outsArmed (addressOf x) (endpointOf (kindOf x)) (g .first) (g .second)) ws (g .memory) u (outRun b buf k tail) false (ap isComplete moves)
-        (not-taken (sendsNext (live x buf) n) (seen w moveSample))
+        (goes-wait e x buf n w f moveSample (outStage st′) true (outsArmed (addressOf x) (endpointOf (kindOf x)) (g .first) (g .second)) ws (g .memory) u (outRun b buf k tail) false (finds-is moveSample ∙ ap isComplete moves)
+        tt
         (out-run k (marks (seen w moveSample) (events f ws)) (performs f ws) st′ (t .rest) q
         (record { flight = out-two-flight 0 c j u m (omega arith); inside = omega (arith, out-two-sum 0 c j u m); room = h .room })
         (subst (λ (d : OutCounters). OutLeft u d (t .rest)) (counters-back (firstPid (kindOf x)) (sizeOf x) (g .packets) (a .pid) (a .size)) (t .left))
@@ -318,7 +331,7 @@ module _ (m log : List ℕ) (fits : lentFits m log ≡ true) (mb : Bytes m) (lw 
     out-start : (pre : List Write) (ty : TransferType) (received : ℕ) (sent : List ℕ) (ks : Packets) (f : File) → Silent pre → sent ≡ lent status buf
         → OutLeft (lent status buf) (outStart ty (sizeOf x) (firstPid (kindOf x)) (stageLength (requestOf x buf) status)) ks → Record ks → (ks ≡ [] → ⊥)
         → stageLength (requestOf x buf) status ≤ length buf
-        → Fin e x buf n (marks unarmed (events f (pre ++ startOut (targetOf (requestOf x buf)) ty status received (stageLength (requestOf x buf) status) sent m .writes)))
+        → Fin e x buf n (marks notArmed (events f (pre ++ startOut (targetOf (requestOf x buf)) ty status received (stageLength (requestOf x buf) status) sent m .writes)))
         (performs f (pre ++ startOut (targetOf (requestOf x buf)) ty status received (stageLength (requestOf x buf) status) sent m .writes))
         (busy x buf (outStage (startOut (targetOf (requestOf x buf)) ty status received (stageLength (requestOf x buf) status) sent m .stage)))
         (outRun b buf (length ks) tail)
@@ -336,17 +349,17 @@ module _ (m log : List ℕ) (fits : lentFits m log ≡ true) (mb : Bytes m) (lw 
         let mk′ : Record (t .new ++ t .rest) = subst Record (t .split) mk in
         let pr = t .progress refl in
         let a = two-alike 0 c 0 sent m in
-        out-run (length ks) (marks unarmed (events f ws)) (performs f ws) (startOut T ty status received k sent m .stage) (t .rest) refl (start-out-fit X ty status received sent m room)
+        out-run (length ks) (marks notArmed (events f ws)) (performs f ws) (startOut T ty status received k sent m .stage) (t .rest) refl (start-out-fit X ty status received sent m room)
         (subst (λ (d : OutCounters). OutLeft (lent status buf) d (t .rest)) (counters-back (firstPid (kindOf x)) (sizeOf x) (g .packets) (a .pid) (a .size)) (t .left))
         (marked-after (t .new) (t .rest) mk′)
-        (λ (z : t .rest ≡ []). subst (λ (es : List Event). IsSet (marks unarmed es)) (sym ev)
-        (set-marks (t .new) (t .rest) unarmed mk′ (λ (v : t .new ++ t .rest ≡ []). absurd (ne (t .split ∙ v))) z))
+        (λ (z : t .rest ≡ []). subst (λ (es : List Event). IsSet (marks notArmed es)) (sym ev)
+        (set-marks (t .new) (t .rest) notArmed mk′ (λ (v : t .new ++ t .rest ≡ []). absurd (ne (t .split ∙ v))) z))
         (omega arith)
 
   -- ---- a begin
 
   begin-run : (x : Begin) (buf : List ℕ) (cs : List Call) (o : Beginning) → TypedBegin x → Bytes buf → beginning Idle x buf m log ≡ o → o .answer ≡ accepted
-      → ((e : Driver) (f : File) → Fin e x buf 0 (marks unarmed (events f (o .writes))) (performs f (o .writes)) (o .next) cs) → Run (record { fields = x; buffer = buf }) gs
+      → ((e : Driver) (f : File) → Fin e x buf 0 (marks notArmed (events f (o .writes))) (performs f (o .writes)) (o .next) cs) → Run (record { fields = x; buffer = buf }) gs
   unfolding UnbrokenFrom begunFrom call
   begin-run x buf cs o ty bb q a fin =
       let c = begin x buf m log in
@@ -355,11 +368,11 @@ module _ (m log : List ℕ) (fits : lentFits m log ≡ true) (mb : Bytes m) (lw 
         free = record {
           typed = ((ty, bb, mb, lw), fin fresh (λ k. 0) .typed);
           premises = λ n w f d r.
-              subst (λ (o : Beginning). (fails (note c (o .answer)) ≡ false) × CallGood (note c (o .answer)) none n w
-              × UnbrokenFrom (nextLive (note c (o .answer)) none) (nextCount (note c (o .answer)) n) (nextWatch (note c (o .answer)) w (events f (o .writes))) (performs f (o .writes)) (withTransfer d (o .next) (entriesBegun (o .answer) (d .entries) (o .armed))) cs)
+              subst (λ (o : Beginning). (breaks (note c (o .answer)) ≡ false) × CallGood (note c (o .answer)) noTransfer n w (events f (o .writes))
+              × UnbrokenFrom (nextLive (note c (o .answer)) noTransfer) (nextCount (note c (o .answer)) n) (nextWatch (note c (o .answer)) w (events f (o .writes))) (performs f (o .writes)) (withTransfer d (o .next) (entriesBegun (o .answer) (d .entries) (o .armed))) cs)
               (sym (ap (λ (t : Transfer). beginning t x buf m log) r ∙ q))
-              (subst (λ (v : BeginAnswer). (fails (note c v) ≡ false) × CallGood (note c v) none n w
-              × UnbrokenFrom (nextLive (note c v) none) (nextCount (note c v) n) (nextWatch (note c v) w (events f (o .writes))) (performs f (o .writes)) (withTransfer d (o .next) (entriesBegun v (d .entries) (o .armed))) cs)
+              (subst (λ (v : BeginAnswer). (breaks (note c v) ≡ false) × CallGood (note c v) noTransfer n w (events f (o .writes))
+              × UnbrokenFrom (nextLive (note c v) noTransfer) (nextCount (note c v) n) (nextWatch (note c v) w (events f (o .writes))) (performs f (o .writes)) (withTransfer d (o .next) (entriesBegun v (d .entries) (o .armed))) cs)
               (sym a) (refl, tt, fin d f .premises (armedCount (o .armed))));
           begun = λ d r.
               subst (λ (o : Beginning). begunBy (note c (o .answer)) ++ begunFrom (withTransfer d (o .next) (entriesBegun (o .answer) (d .entries) (o .armed))) cs ≡ record { fields = x; buffer = buf } ∷ gs)
@@ -371,10 +384,10 @@ module _ (m log : List ℕ) (fits : lentFits m log ≡ true) (mb : Bytes m) (lw 
 
   -- ---- a bulk OUT
 
-  pub run-bulk : (a e p : ℕ) (t : TransferType) (b : Bool) (buf : List ℕ) → Bytes buf → Checked (bulk Out a e p t b) buf → Run (record { fields = bulk Out a e p t b; buffer = buf }) gs
+  pub run-bulk : (a e p : ℕ) (t : TransferType) (b : Bool) (buf : List ℕ) → Bytes buf → Checked (bulkBegin Out a e p t b) buf → Run (record { fields = bulkBegin Out a e p t b; buffer = buf }) gs
   unfolding beginBulkOutOf served
   run-bulk a e p t b buf bb ck =
-      let x = bulk Out a e p t b in
+      let x = bulkBegin Out a e p t b in
       let X = requestOf x buf in
       let ks = outCut t p b buf in
       let left = all-cut t p b buf (ck .low) (ck .high) (ck .kind .2) in
@@ -395,10 +408,10 @@ module _ (m log : List ℕ) (fits : lentFits m log ≡ true) (mb : Bytes m) (lw 
 
   module _ (a : ℕ) (z : TransferExtras) (p : ℕ) (s : SetupPacket) (buf : List ℕ) (bb : Bytes buf) where
     abbrev asks : DataPhase → Begin
-    asks ph = control a z p s ph
+    asks ph = controlBegin a z p s ph
 
     abbrev asked : DataPhase → Request
-    asked ph = requestOf (control a z p s ph) buf
+    asked ph = requestOf (controlBegin a z p s ph) buf
 
     from-setup : (ph : DataPhase) (cs : List Call) → Checked (asks ph) buf
         → ((e : Driver) (w : Watch) (f : File) → Fin e (asks ph) buf 0 w f (busy (asks ph) buf setupStage) cs)
@@ -410,7 +423,7 @@ module _ (m log : List ℕ) (fits : lentFits m log ≡ true) (mb : Bytes m) (lw 
         let short : p ≤ 64 = ck .high in
         begin-run (asks ph) buf cs o (omega arith, omega arith, ck .kind) bb
         (rw (fits, le-leb a 127 (ck .addr), le-leb 1 p (ck .low), le-leb p 64 (ck .high))) refl
-        (λ e f. fin e (marks unarmed (events f (o .writes))) (performs f (o .writes)))
+        (λ e f. fin e (marks notArmed (events f (o .writes))) (performs f (o .writes)))
 
     -- SETUP is done.
     setup-done : (b : Bool) (ph : DataPhase) → Checked (asks ph) buf → served b (kindOf (asks ph)) setupStage ≡ true → (v : Bool) → ltb (length buf) (s .wLength) ≡ v
@@ -421,7 +434,7 @@ module _ (m log : List ℕ) (fits : lentFits m log ≡ true) (mb : Bytes m) (lw 
     -- The last stage, IN: one step.
     in-last : (e : Driver) (b : Bool) (ph : DataPhase) (n : ℕ) (w : Watch) (f : File) (st : InStage) → Checked (asks ph) buf → st .status ≡ true
         → served b (kindOf (asks ph)) (inStage st) ≡ true → Fit (asked ph) (inStage st)
-        → TakenIf (sendsNext (live (asks ph) buf) n && true) (seen w doneSample)
+        → TakenIf (sendsNext (live (asks ph) buf) n) (seen w doneSample)
         → Fin e (asks ph) buf n w f (busy (asks ph) buf (inStage st)) (step b doneSample buf m log ∷ later)
     in-last e b ph n w f st ck q sv h t =
         let x = asks ph in
@@ -454,8 +467,8 @@ module _ (m log : List ℕ) (fits : lentFits m log ≡ true) (mb : Bytes m) (lw 
         let tail = step true doneSample buf m log ∷ later in
         from-setup phaseNone (step true doneSample buf m log ∷ tail) ck
         (λ e w f. fin-step e x buf 0 w f true (busy x buf setupStage) doneSample tail (after polledOnly (entersIn X true 0 m buf)) bb done-typed (setup-done true phaseNone ck refl (ltb (length buf) (s .wLength)) refl)
-        (goes-wait e x buf 0 w f doneSample (inStage (i .stage)) true nothingArmed ws m buf tail true (ap isComplete completing) tt
-        (in-last e true phaseNone 1 (marks unarmed (events f ws)) (performs f ws) (i .stage) ck refl refl (start-in-fit X FixedSize true (omega arith)) tt)))
+        (goes-wait e x buf 0 w f doneSample (inStage (i .stage)) true nothingArmed ws m buf tail true (finds-is doneSample ∙ ap isComplete completing) tt
+        (in-last e true phaseNone 1 (marks notArmed (events f ws)) (performs f ws) (i .stage) ck refl refl (start-in-fit X FixedSize true (omega arith)) tt)))
 
     pub run-in : Checked (asks phaseIn) buf → s .wLength ≤ length buf → Run (record { fields = asks phaseIn; buffer = buf }) gs
     unfolding served startIn
@@ -472,13 +485,13 @@ module _ (m log : List ℕ) (fits : lentFits m log ≡ true) (mb : Bytes m) (lw 
         let serves : (st : OutStage) → st .status ≡ true → served true (kindOf x) (outStage st) ≡ true = λ st q. ap (λ (v : Bool). kindHas (kindOf x) false v) q in
         from-setup phaseIn (step true doneSample buf m log ∷ tail) ck
         (λ e w f.
-        let w₁ = marks unarmed (events f ws) in
+        let w₁ = marks notArmed (events f ws) in
         let f₁ = performs f ws in
         fin-step e x buf 0 w f true (busy x buf setupStage) doneSample tail (after polledOnly (entersIn X false (s .wLength) m buf)) bb done-typed (setup-done true phaseIn ck refl false (le-ltb (length buf) (s .wLength) room))
-        (goes-wait e x buf 0 w f doneSample (inStage (i .stage)) true nothingArmed ws m buf tail true (ap isComplete completing) tt
+        (goes-wait e x buf 0 w f doneSample (inStage (i .stage)) true nothingArmed ws m buf tail true (finds-is doneSample ∙ ap isComplete completing) tt
         (fin-stage e x buf 1 w₁ f₁ true (busy x buf (inStage (i .stage))) doneSample rest false (after (completes ∷ []) (entersOut X true 0 0 [] m buf)) bb done-typed
         (in-completes true x buf ck (i .stage) refl (start-in-fit X FixedSize false room))
-        (goes-wait e x buf 1 w₁ f₁ doneSample (outStage (o .stage)) true (outsArmed a 0 (o .first) (o .second)) vs (o .memory) buf rest true (ap isComplete completing) tt
+        (goes-wait e x buf 1 w₁ f₁ doneSample (outStage (o .stage)) true (outsArmed a 0 (o .first) (o .second)) vs (o .memory) buf rest true (finds-is doneSample ∙ ap isComplete completing) tt
         (out-start e true x buf ck bb true 2 later serves
         (λ w f st q t h. fin-stage e x buf 2 w f true (busy x buf (outStage st)) doneSample later true (outDoneAs phaseIn st true) bb done-typed
         (out-done true phaseIn st true ck q (serves st q) h) (goes-done e x buf 2 w f (st .received) false completed [] (seen-taken w t)))
@@ -503,11 +516,11 @@ module _ (m log : List ℕ) (fits : lentFits m log ≡ true) (mb : Bytes m) (lw 
         from-setup phaseOut (step false doneSample buf m log ∷ rest) ck
         (λ e w f.
         fin-step e x buf 0 w f false (busy x buf setupStage) doneSample rest (after polledOnly (entersOut X false 0 wl buf m buf)) bb done-typed (setup-done false phaseOut ck refl false (le-ltb (length buf) wl room))
-        (goes-wait e x buf 0 w f doneSample (outStage (o .stage)) true (outsArmed a 0 (o .first) (o .second)) ws (o .memory) buf rest true (ap isComplete completing) tt
+        (goes-wait e x buf 0 w f doneSample (outStage (o .stage)) true (outsArmed a 0 (o .first) (o .second)) ws (o .memory) buf rest true (finds-is doneSample ∙ ap isComplete completing) tt
         (out-start e false x buf ck bb false 1 tail serves
         (λ w f st q t h. fin-stage e x buf 1 w f false (busy x buf (outStage st)) doneSample tail false (outDoneAs phaseOut st false) bb done-typed
         (out-done false phaseOut st false ck q (serves st q) h)
-        (goes-wait e x buf 1 w f doneSample (inStage (i .stage)) true nothingArmed vs m buf tail true (ap isComplete completing) (seen-taken w t)
-        (in-last e false phaseOut 2 (marks unarmed (events f vs)) (performs f vs) (i .stage) ck refl refl (start-in-fit X FixedSize true (omega arith)) tt)))
+        (goes-wait e x buf 1 w f doneSample (inStage (i .stage)) true nothingArmed vs m buf tail true (finds-is doneSample ∙ ap isComplete completing) (seen-taken w t)
+        (in-last e false phaseOut 2 (marks notArmed (events f vs)) (performs f vs) (i .stage) ck refl refl (start-in-fit X FixedSize true (omega arith)) tt)))
         polledOnly FixedSize 0 buf ks f silent-polled refl (out-cut FixedSize p true (ck .low) (ck .high) buf wl (omega arith) room) (cut-marked FixedSize p true (take wl buf))
         (cut-some FixedSize p true (take wl buf) (ck .low)) room)))

@@ -17,11 +17,12 @@ use Rattle.record.specs.Grammar.{Entry}
 use Rattle.record.specs.Wire.{File, performs, events, wire}
 use Rattle.transfers.specs.Entries.{entriesCancelled, failedCancel}
 use Rattle.transfers.specs.Driver.{withTransfer}
-use Rattle.record.specs.Calls.{Call, begin, step, cancel, openPipe, closePipe, pollPipe, interrupt, detect, Effect, call, note}
+use Rattle.record.specs.Calls.{Call, begin, step, cancel, openPipe, closePipe, pollPipe, interrupt, detect, Effect, call}
 use Rattle.record.specs.Asked.{Typed, AllTyped, Begun, armedBy}
 use Rattle.record.specs.Fates.{begunBy, begunFrom}
-use Rattle.record.specs.Told.{Live, none, Watch, marks, nextLive, nextCount, nextWatch}
+use Rattle.record.specs.Told.{Live, noTransfer, Watch, marks, note}
 use Rattle.record.specs.Premises.{CallGood}
+use Rattle.record.proofs.Heard.{nextLive, nextCount, nextWatch}
 use Rattle.record.proofs.Unbroken.{entriesFrom, UnbrokenFrom}
 use Rattle.record.proofs.Logs.{Silent, silent-apart}
 use Rattle.record.proofs.Parts.{armedByAll}
@@ -55,7 +56,7 @@ passes l n w f t rest ws s i = inv-kept l n w (marks w (events f ws)) f (perform
 -- ---- every call
 
 pub call-kept : (c : Call) (d : Driver) (l : Live) (n : ℕ) (w : Watch) (f : File) (rest : List Entry) → Typed c → Inv l n w f (d .transfer) rest
-    → CallGood (note c (call d c .answer)) l n w → Kept l n w f rest c (call d c)
+    → CallGood (note c (call d c .answer)) l n w (events f (call d c .writes)) → Kept l n w f rest c (call d c)
 unfolding call
 call-kept (begin x buf m log) d l n w f rest ty i h = begin-kept d n w f buf m log x l (d .transfer) rest (ty .0) i
 call-kept (step b y now m log) d l n w f rest ty i h = step-kept d b y now m log l n w f (d .transfer) rest i h
@@ -84,7 +85,7 @@ armed-append : (a b : List Begun) → armedByAll (a ++ b) ≡ armedByAll a ++ ar
 armed-append [] b = refl
 armed-append (g ∷ a) b = ap (λ (r : List Entry). armedBy g ++ r) (armed-append a b) ∙ sym (append-assoc (armedBy g) (armedByAll a) (armedByAll b))
 
-none-due : (n : ℕ) (w : Watch) (f : File) (t : Transfer) (rest : List Entry) → Inv none n w f t rest → rest ≡ []
+none-due : (n : ℕ) (w : Watch) (f : File) (t : Transfer) (rest : List Entry) → Inv noTransfer n w f t rest → rest ≡ []
 none-due n w f Idle rest i = i
 none-due n w f (Busy r) rest i = absurd i
 
@@ -111,6 +112,6 @@ record-is (c ∷ cs) l n w f d rest ty i h =
 
 -- ---- from a driver with nothing under way, over any registers
 
-pub record-of-begun : (cs : List Call) (n : ℕ) (w : Watch) (f : File) (d : Driver) → d .transfer ≡ Idle → AllTyped cs → UnbrokenFrom none n w f d cs
+pub record-of-begun : (cs : List Call) (n : ℕ) (w : Watch) (f : File) (d : Driver) → d .transfer ≡ Idle → AllTyped cs → UnbrokenFrom noTransfer n w f d cs
     → entriesFrom f d cs ≡ armedByAll (begunFrom d cs)
-record-of-begun cs n w f d e ty h = record-is cs none n w f d [] ty (subst (λ (t : Transfer). Inv none n w f t []) (sym e) refl) h
+record-of-begun cs n w f d e ty h = record-is cs noTransfer n w f d [] ty (subst (λ (t : Transfer). Inv noTransfer n w f t []) (sym e) refl) h

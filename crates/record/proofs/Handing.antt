@@ -9,14 +9,13 @@ use lib.ListN.{length, drop, length-append, length-drop}
 use lib.Seq.{drop-drop, drop-append-seam}
 use lib.Dec.{eqb}
 use borrow.Author.Tests.{ne-eqb}
-use Rattle.record.specs.Grammar.{Four, four, Entry, setup, out, group, bytes, Sent, sentEntries, Part, bulk, control, entries, Fits, AllFit, written, sentBytes}
-use Rattle.record.specs.Grammar as G
-use Rattle.record.specs.Segments.{Element, entry, failed, FirstPart, Segment, SegmentsFit, elements}
+use Rattle.record.specs.Grammar.{Four, four, Entry, setup, out, group, groupBytes, Sent, sentEntries, Part, bulkPart, controlPart, partEntries, Fits, AllFit, partsEntries, sentBytes, noGroup, oneGroup}
+use Rattle.record.specs.Segments.{Element, entry, failedEntry, FirstPart, Segment, SegmentsFit, elements}
 use Rattle.record.specs.Bytes.{encode, encodeAll, failedBytes, encodeElements}
 use Rattle.record.specs.Scan.{InRange, AllInRange}
 use Rattle.record.specs.Reader.{look}
-use Rattle.record.specs.Items.{groupLook, groupOf, groupFrom, groupAt, sentLook, sentAt, failedLook, failedAt, unless, itemLook, itemAt, itemFor, nextOf, itemsFrom, itemsFor, answersFor, moves}
-use Rattle.record.specs.Verdict.{recordIn, whole}
+use Rattle.record.specs.Items.{groupLook, groupOf, groupFrom, groupAt, sentLook, sentAt, failedLook, failedAt, unlessFailed, itemLook, itemAt, itemFor, nextOf, itemsFrom, itemsFor, answersFor, moves}
+use Rattle.record.specs.Verdict.{recordIn}
 use Rattle.record.specs.declared.look.Look.{Look}
 use Rattle.record.specs.declared.look.Look.the-variants.{Setup, Out, Failed, Bad, End}
 use Rattle.record.specs.declared.items.Span.{Span}
@@ -56,7 +55,7 @@ same-span e f = ap₂ (λ (x y : ℕ). record { at = x; count = y }) e f
 
 -- A group is walked through to its marked packet.
 walk : (xs : List (List ℕ)) (s : List ℕ) (p : Span) (f a n : ℕ) (v : Bool) (l rest : List ℕ) → drop (p .at) s ≡ encodeAll (group a n v xs l) ++ rest → AllInRange (group a n v xs l)
-    → groupFrom (length xs + suc f) s p ≡ record { at = p .at + length (encodeAll (group a n v xs l)); count = p .count + length (bytes xs l) }
+    → groupFrom (length xs + suc f) s p ≡ record { at = p .at + length (encodeAll (group a n v xs l)); count = p .count + length (groupBytes xs l) }
 unfolding encodeAll
 walk [] s p f a n v l rest q h =
     let k : drop (p .at) s ≡ encode (out a n v true l) ++ rest = q ∙ ap (λ (m : List ℕ). m ++ rest) (append-nil (encode (out a n v true l))) in
@@ -73,7 +72,7 @@ walk (x ∷ xs) s p f a n v l rest q h =
     let d : drop (m .at) s ≡ r ++ rest = let w : p .at + length (encode e) ≡ p .at + (6 + length x) = omega arith in ap (λ (i : ℕ). drop i s) (sym w) ∙ after-entry s (p .at) e (r ++ rest) k in
     let z : length (x ∷ xs) + suc f ≡ suc (length xs + suc f) = omega arith in
     let y = length-append (encode e) r in
-    let u = length-append x (bytes xs l) in
+    let u = length-append x (groupBytes xs l) in
     ap (λ (i : ℕ). groupFrom i s p) z ∙ group-more (length xs + suc f) s p m g ∙ walk xs s m f a n (not v) l rest d (h .1) ∙ same-span (omega arith) (omega arith)
 
 group-long : (a n : ℕ) (v : Bool) (xs : List (List ℕ)) (l : List ℕ) → length (group a n v xs l) ≡ suc (length xs)
@@ -81,7 +80,7 @@ group-long a n v [] l = refl
 group-long a n v (x ∷ xs) l = ap suc (group-long a n (not v) xs l)
 
 walked : (xs : List (List ℕ)) (s : List ℕ) (at a n : ℕ) (v : Bool) (l rest : List ℕ) → drop at s ≡ encodeAll (group a n v xs l) ++ rest → AllInRange (group a n v xs l)
-    → groupAt s at ≡ record { at = at + length (encodeAll (group a n v xs l)); count = length (bytes xs l) }
+    → groupAt s at ≡ record { at = at + length (encodeAll (group a n v xs l)); count = length (groupBytes xs l) }
 unfolding groupAt
 walked xs s at a n v l rest q h =
     let k = few (group a n v xs l) in
@@ -137,20 +136,20 @@ item-at s at y q = ap (λ (v : Look). itemLook v s at) q
 
 -- ---- whole transfers
 
-unless-not : (s : List ℕ) (at : ℕ) (r : List ℕ) (n : ℕ) (y : ItemAnswer) → drop at s ≡ r → Quiet (look r) → unless (failedAt s at) n y ≡ y
-unless-not s at r n y q h = ap (λ (b : Bool). unless b n y) (failed-at s at (look r) (ap look q) ∙ quiet-failed (look r) h)
+unless-not : (s : List ℕ) (at : ℕ) (r : List ℕ) (n : ℕ) (y : ItemAnswer) → drop at s ≡ r → Quiet (look r) → unlessFailed (failedAt s at) n y ≡ y
+unless-not s at r n y q h = ap (λ (b : Bool). unlessFailed b n y) (failed-at s at (look r) (ap look q) ∙ quiet-failed (look r) h)
 
 bulk-handed : (a n : ℕ) (v : Bool) (xs : List (List ℕ)) (l rest s : List ℕ) (at : ℕ) → AllInRange (group a n v xs l) → drop at s ≡ encodeAll (group a n v xs l) ++ rest → Quiet (look rest)
-    → itemAt s at ≡ itemFor (bulk a n v xs l) at
+    → itemAt s at ≡ itemFor (bulkPart a n v xs l) at
 unfolding encodeAll
 bulk-handed a n v xs l rest s at h q y =
     let w = walked xs s at a n v l rest q h in
     first xs h q
-    ∙ ap (λ (x : Span). unless (failedAt s (x .at)) (x .at) (Bulk (record { address = a; endpoint = n; pid = v; count = x .count; next = record { at = x .at } }))) w
+    ∙ ap (λ (x : Span). unlessFailed (failedAt s (x .at)) (x .at) (Bulk (record { address = a; endpoint = n; pid = v; count = x .count; next = record { at = x .at } }))) w
     ∙ unless-not s (at + length (encodeAll (group a n v xs l))) rest _ _ (after-all s at (encodeAll (group a n v xs l)) rest q) y
   where
     first : (xs : List (List ℕ)) → AllInRange (group a n v xs l) → drop at s ≡ encodeAll (group a n v xs l) ++ rest
-        → itemAt s at ≡ unless (failedAt s (groupAt s at .at)) (groupAt s at .at) (Bulk (record { address = a; endpoint = n; pid = v; count = groupAt s at .count; next = record { at = groupAt s at .at } }))
+        → itemAt s at ≡ unlessFailed (failedAt s (groupAt s at .at)) (groupAt s at .at) (Bulk (record { address = a; endpoint = n; pid = v; count = groupAt s at .count; next = record { at = groupAt s at .at } }))
     first [] h q = item-at s at (lookOf (out a n v true l)) (look-at s at (out a n v true l) ([] ++ rest) (q ∙ append-assoc (encode (out a n v true l)) [] rest) (h .0))
     first (x ∷ xs) h q = item-at s at (lookOf (out a n v false x))
         (look-at s at (out a n v false x) (encodeAll (group a n (not v) xs l) ++ rest) (q ∙ append-assoc (encode (out a n v false x)) (encodeAll (group a n (not v) xs l)) rest) (h .0))
@@ -158,21 +157,21 @@ bulk-handed a n v xs l rest s at h q y =
 sent-walked : (a : ℕ) (t : Sent) (rest s : List ℕ) (at : ℕ) → AllInRange (sentEntries a t) → drop at s ≡ encodeAll (sentEntries a t) ++ rest → Quiet (look rest)
     → sentAt s at ≡ record { at = at + length (encodeAll (sentEntries a t)); count = length (sentBytes t) }
 unfolding encodeAll
-sent-walked a G.none rest s at h q y = sent-at s at (look rest) (ap look q) ∙ quiet-sent s at (look rest) y ∙ same-span (omega arith) refl
-sent-walked a (G.some xs l) rest s at h q y = first-zero a xs l rest s at q h ∙ walked xs s at a 0 true l rest q h
+sent-walked a noGroup rest s at h q y = sent-at s at (look rest) (ap look q) ∙ quiet-sent s at (look rest) y ∙ same-span (omega arith) refl
+sent-walked a (oneGroup xs l) rest s at h q y = first-zero a xs l rest s at q h ∙ walked xs s at a 0 true l rest q h
 
-control-handed : (a : ℕ) (lo hi : Four) (t : Sent) (rest s : List ℕ) (at : ℕ) → Fits (control a lo hi t) → drop at s ≡ encode (setup a lo hi) ++ (encodeAll (sentEntries a t) ++ rest) → Quiet (look rest)
-    → itemAt s at ≡ itemFor (control a lo hi t) at
+control-handed : (a : ℕ) (lo hi : Four) (t : Sent) (rest s : List ℕ) (at : ℕ) → Fits (controlPart a lo hi t) → drop at s ≡ encode (setup a lo hi) ++ (encodeAll (sentEntries a t) ++ rest) → Quiet (look rest)
+    → itemAt s at ≡ itemFor (controlPart a lo hi t) at
 unfolding encodeAll
 control-handed a (four b0 b1 b2 b3) (four b4 b5 b6 b7) t rest s at f q y =
     let e = setup a (four b0 b1 b2 b3) (four b4 b5 b6 b7) in
     let r = encodeAll (sentEntries a t) ++ rest in
-    let h = part-ranged (control a (four b0 b1 b2 b3) (four b4 b5 b6 b7) t) f in
+    let h = part-ranged (controlPart a (four b0 b1 b2 b3) (four b4 b5 b6 b7) t) f in
     let z = length-append (encode e) (encodeAll (sentEntries a t)) in
     let d = after-entry s at e r q in
     let end = at + 10 + length (encodeAll (sentEntries a t)) in
     item-at s at (lookOf e) (look-at s at e r q (h .0))
-    ∙ ap (λ (x : Span). unless (failedAt s (x .at)) (x .at) (Control (record { address = a; setup = at + 2; count = x .count; next = record { at = x .at } }))) (sent-walked a t rest s (at + 10) (h .1) d y)
+    ∙ ap (λ (x : Span). unlessFailed (failedAt s (x .at)) (x .at) (Control (record { address = a; setup = at + 2; count = x .count; next = record { at = x .at } }))) (sent-walked a t rest s (at + 10) (h .1) d y)
     ∙ unless-not s end rest end _ (after-all s (at + 10) (encodeAll (sentEntries a t)) rest d) y
     ∙ ap (λ (m : ℕ). Control (record { address = a; setup = at + 2; count = length (sentBytes t); next = record { at = m } })) (omega arith)
 
@@ -181,30 +180,30 @@ unfolding encodeAll
 setup-first a lo hi es rest = append-assoc (encode (setup a lo hi)) (encodeAll es) rest
 
 -- The item of the part that stands at the cursor.
-pub handed : (q : Part) (rest s : List ℕ) (at : ℕ) → Fits q → drop at s ≡ encodeAll (entries q) ++ rest → Quiet (look rest) → itemAt s at ≡ itemFor q at
-handed (bulk a n v xs l) rest s at f q y = bulk-handed a n v xs l rest s at (part-ranged (bulk a n v xs l) f) q y
-handed (control a lo hi t) rest s at f q y = control-handed a lo hi t rest s at f (q ∙ setup-first a lo hi (sentEntries a t) rest) y
+pub handed : (q : Part) (rest s : List ℕ) (at : ℕ) → Fits q → drop at s ≡ encodeAll (partEntries q) ++ rest → Quiet (look rest) → itemAt s at ≡ itemFor q at
+handed (bulkPart a n v xs l) rest s at f q y = bulk-handed a n v xs l rest s at (part-ranged (bulkPart a n v xs l) f) q y
+handed (controlPart a lo hi t) rest s at f q y = control-handed a lo hi t rest s at f (q ∙ setup-first a lo hi (sentEntries a t) rest) y
 
-next-for : (q : Part) (at here : ℕ) → nextOf (itemFor q at) here ≡ at + length (encodeAll (entries q))
-next-for (bulk a n v xs l) at here = refl
-next-for (control a lo hi t) at here = refl
+next-for : (q : Part) (at here : ℕ) → nextOf (itemFor q at) here ≡ at + length (encodeAll (partEntries q))
+next-for (bulkPart a n v xs l) at here = refl
+next-for (controlPart a lo hi t) at here = refl
 
 -- A part begins with no packet on endpoint 0.
-part-quiet : (q : Part) (es : List Entry) (e : Entry) (r : List ℕ) → Fits q → entries q ≡ e ∷ es → Quiet (look (encode e ++ r))
-part-quiet (bulk a n v [] l) es e r f k =
+part-quiet : (q : Part) (es : List Entry) (e : Entry) (r : List ℕ) → Fits q → partEntries q ≡ e ∷ es → Quiet (look (encode e ++ r))
+part-quiet (bulkPart a n v [] l) es e r f k =
     subst (λ (x : Entry). Quiet (look (encode x ++ r))) (head-eq-of-cons-eq k)
-    (subst Quiet (sym (look-encode (out a n v true l) r (part-ranged (bulk a n v [] l) f .0))) (ne-eqb n 0 (λ (z : n ≡ 0). let y = f .1 in omega arith)))
-part-quiet (bulk a n v (x ∷ xs) l) es e r f k =
+    (subst Quiet (sym (look-encode (out a n v true l) r (part-ranged (bulkPart a n v [] l) f .0))) (ne-eqb n 0 (λ (z : n ≡ 0). let y = f .1 in omega arith)))
+part-quiet (bulkPart a n v (x ∷ xs) l) es e r f k =
     subst (λ (y : Entry). Quiet (look (encode y ++ r))) (head-eq-of-cons-eq k)
-    (subst Quiet (sym (look-encode (out a n v false x) r (part-ranged (bulk a n v (x ∷ xs) l) f .0))) (ne-eqb n 0 (λ (z : n ≡ 0). let y = f .1 in omega arith)))
-part-quiet (control a lo hi t) es e r f k =
+    (subst Quiet (sym (look-encode (out a n v false x) r (part-ranged (bulkPart a n v (x ∷ xs) l) f .0))) (ne-eqb n 0 (λ (z : n ≡ 0). let y = f .1 in omega arith)))
+part-quiet (controlPart a lo hi t) es e r f k =
     subst (λ (x : Entry). Quiet (look (encode x ++ r))) (head-eq-of-cons-eq k)
-    (subst Quiet (sym (look-encode (setup a lo hi) r (part-ranged (control a lo hi t) f .0))) tt)
+    (subst Quiet (sym (look-encode (setup a lo hi) r (part-ranged (controlPart a lo hi t) f .0))) tt)
 
-some-first : (q : Part) → (e : Entry) × (es : List Entry) × (entries q ≡ e ∷ es)
-some-first (bulk a n v [] l) = (out a n v true l, [], refl)
-some-first (bulk a n v (x ∷ xs) l) = (out a n v false x, group a n (not v) xs l, refl)
-some-first (control a lo hi t) = (setup a lo hi, sentEntries a t, refl)
+some-first : (q : Part) → (e : Entry) × (es : List Entry) × (partEntries q ≡ e ∷ es)
+some-first (bulkPart a n v [] l) = (out a n v true l, [], refl)
+some-first (bulkPart a n v (x ∷ xs) l) = (out a n v false x, group a n (not v) xs l, refl)
+some-first (controlPart a lo hi t) = (setup a lo hi, sentEntries a t, refl)
 
 cons-bytes : (e : Entry) (es : List Entry) (r : List ℕ) → encodeAll (e ∷ es) ++ r ≡ encode e ++ (encodeAll es ++ r)
 unfolding encodeAll
@@ -218,13 +217,13 @@ nil-length : length (encodeAll []) ≡ 0
 unfolding encodeAll
 nil-length = refl
 
-parts-quiet : (ps : List Part) (r : List ℕ) → AllFit ps → Quiet (look r) → Quiet (look (encodeAll (written ps) ++ r))
+parts-quiet : (ps : List Part) (r : List ℕ) → AllFit ps → Quiet (look r) → Quiet (look (encodeAll (partsEntries ps) ++ r))
 parts-quiet [] r f y = subst (λ (l : List ℕ). Quiet (look l)) (sym (nil-bytes r)) y
 parts-quiet (q ∷ ps) r f y =
     let k = some-first q in
-    let e : encodeAll (written (q ∷ ps)) ++ r ≡ encode (k .0) ++ (encodeAll (k .1 ++ written ps) ++ r) =
-    ap (λ (es : List Entry). encodeAll (es ++ written ps) ++ r) (k .2) ∙ cons-bytes (k .0) (k .1 ++ written ps) r in
-    subst (λ (l : List ℕ). Quiet (look l)) (sym e) (part-quiet q (k .1) (k .0) (encodeAll (k .1 ++ written ps) ++ r) (f .0) (k .2))
+    let e : encodeAll (partsEntries (q ∷ ps)) ++ r ≡ encode (k .0) ++ (encodeAll (k .1 ++ partsEntries ps) ++ r) =
+    ap (λ (es : List Entry). encodeAll (es ++ partsEntries ps) ++ r) (k .2) ∙ cons-bytes (k .0) (k .1 ++ partsEntries ps) r in
+    subst (λ (l : List ℕ). Quiet (look l)) (sym e) (part-quiet q (k .1) (k .0) (encodeAll (k .1 ++ partsEntries ps) ++ r) (f .0) (k .2))
 
 none-left : (s : List ℕ) (n : ℕ) → itemsFrom 0 s n ≡ []
 unfolding itemsFrom
@@ -235,24 +234,24 @@ one-item : (k : ℕ) (s : List ℕ) (at : ℕ) → itemsFrom (suc k) s at ≡ it
 unfolding itemsFrom
 one-item k s at = refl
 
-all-handed : (ps : List Part) (k : ℕ) (rest s : List ℕ) (at : ℕ) → AllFit ps → drop at s ≡ encodeAll (written ps) ++ rest → Quiet (look rest)
-    → itemsFrom (length ps + k) s at ≡ itemsFor ps at ++ itemsFrom k s (at + length (encodeAll (written ps)))
+all-handed : (ps : List Part) (k : ℕ) (rest s : List ℕ) (at : ℕ) → AllFit ps → drop at s ≡ encodeAll (partsEntries ps) ++ rest → Quiet (look rest)
+    → itemsFrom (length ps + k) s at ≡ itemsFor ps at ++ itemsFrom k s (at + length (encodeAll (partsEntries ps)))
 all-handed [] k rest s at f q y =
     let z = nil-length in
     ap₂ (λ (i j : ℕ). itemsFrom i s j) (let x : 0 + k ≡ k = omega arith in x) (let x : at ≡ at + length (encodeAll []) = omega arith in x)
 all-handed (p ∷ ps) k rest s at f q y =
-    let n = length (encodeAll (entries p)) in
-    let b = encodeAll (written ps) in
-    let e = encode-append (entries p) (written ps) in
-    let q₁ : drop at s ≡ encodeAll (entries p) ++ (b ++ rest) = q ∙ ap (λ (l : List ℕ). l ++ rest) e ∙ append-assoc (encodeAll (entries p)) b rest in
+    let n = length (encodeAll (partEntries p)) in
+    let b = encodeAll (partsEntries ps) in
+    let e = encode-append (partEntries p) (partsEntries ps) in
+    let q₁ : drop at s ≡ encodeAll (partEntries p) ++ (b ++ rest) = q ∙ ap (λ (l : List ℕ). l ++ rest) e ∙ append-assoc (encodeAll (partEntries p)) b rest in
     let h = handed p (b ++ rest) s at (f .0) q₁ (parts-quiet ps rest (f .1) y) in
     let m : nextOf (itemAt s at) at ≡ at + n = ap (λ (v : ItemAnswer). nextOf v at) h ∙ next-for p at at in
-    let l = ap length e ∙ length-append (encodeAll (entries p)) b in
-    let ih = all-handed ps k rest s (at + n) (f .1) (after-all s at (encodeAll (entries p)) (b ++ rest) q₁) y in
+    let l = ap length e ∙ length-append (encodeAll (partEntries p)) b in
+    let ih = all-handed ps k rest s (at + n) (f .1) (after-all s at (encodeAll (partEntries p)) (b ++ rest) q₁) y in
     ap (λ (i : ℕ). itemsFrom i s at) (let x : length (p ∷ ps) + k ≡ suc (length ps + k) = omega arith in x)
     ∙ one-item (length ps + k) s at
     ∙ ap₂ (λ (v : ItemAnswer) (i : ℕ). v ∷ itemsFrom (length ps + k) s i) h m
-    ∙ ap (λ (v : List ItemAnswer). itemFor p at ∷ v) (ih ∙ ap (λ (i : ℕ). itemsFor ps (at + n) ++ itemsFrom k s i) (let x : (at + n) + length b ≡ at + length (encodeAll (entries p ++ written ps)) = omega arith in x))
+    ∙ ap (λ (v : List ItemAnswer). itemFor p at ∷ v) (ih ∙ ap (λ (i : ℕ). itemsFor ps (at + n) ++ itemsFrom k s i) (let x : (at + n) + length b ≡ at + length (encodeAll (partEntries p ++ partsEntries ps)) = omega arith in x))
 
 -- ---- a transfer that failed
 
@@ -306,9 +305,9 @@ walked-first es rest xs s at a n m v l post k h q =
     let i : suc (length s) ≡ length es + suc (length s - length es) = omega arith in
     ap (λ (j : ℕ). groupFrom j s (record { at = at; count = 0 }) .at) i ∙ walk-first es rest xs s (record { at = at; count = 0 }) (length s - length es) a n m v l post k h q
 
-unless-failed : (s : List ℕ) (at n : ℕ) (m : ℕ) (post : List ℕ) (y : ItemAnswer) → drop at s ≡ failedBytes (suc m) ++ post → at ≡ n → unless (failedAt s at) at y ≡ failedItem (record { at = n + 5 })
+unless-failed : (s : List ℕ) (at n : ℕ) (m : ℕ) (post : List ℕ) (y : ItemAnswer) → drop at s ≡ failedBytes (suc m) ++ post → at ≡ n → unlessFailed (failedAt s at) at y ≡ failedItem (record { at = n + 5 })
 unless-failed s at n m post y q e =
-    ap (λ (b : Bool). unless b at y) (failed-at s at (Failed (suc m)) (ap look q ∙ see-failed (suc m) post) ∙ ap not (ne-eqb (suc m) 0 (λ (z : suc m ≡ 0). omega arith)))
+    ap (λ (b : Bool). unlessFailed b at y) (failed-at s at (Failed (suc m)) (ap look q ∙ see-failed (suc m) post) ∙ ap not (ne-eqb (suc m) 0 (λ (z : suc m ≡ 0). omega arith)))
     ∙ ap (λ (i : ℕ). failedItem (record { at = i + 5 })) e
 
 tail-is : {e x : Entry} {a b : List Entry} → e ∷ a ≡ x ∷ b → a ≡ b
@@ -323,9 +322,9 @@ first-out a n v last l es s at post k q = go (k .part) (k .is)
     e : Entry
     e = out a n v last l
 
-    go : (p : Part) → (out a n v last l ∷ es) ++ k .rest ≡ entries p → itemAt s at ≡ failedItem (record { at = at + length (encodeAll (out a n v last l ∷ es)) + 5 })
-    go (control a′ lo hi t) j = absurd-eq (cc)
-    go (bulk a′ n′ v′ xs l′) j =
+    go : (p : Part) → (out a n v last l ∷ es) ++ k .rest ≡ partEntries p → itemAt s at ≡ failedItem (record { at = at + length (encodeAll (out a n v last l ∷ es)) + 5 })
+    go (controlPart a′ lo hi t) j = absurd-eq (cc)
+    go (bulkPart a′ n′ v′ xs l′) j =
         let h = first-ranged (out a n v last l ∷ es) k in
         let w = walked-first (out a n v last l ∷ es) (k .rest) xs s at a′ n′ (suc (length es)) v′ l′ post j h q in
         let g = after-all s at (encodeAll (out a n v last l ∷ es)) (failedBytes (suc (length es)) ++ post) q in
@@ -338,13 +337,13 @@ sent-first : (a : ℕ) (t : Sent) (es rest : List Entry) (s : List ℕ) (at m : 
 unfolding encodeAll
 sent-first a t [] rest s at m post j h q =
     ap (λ (x : Span). x .at) (sent-at s at (Failed m) (ap look q ∙ see-failed m post)) ∙ omega arith
-sent-first a G.none (e ∷ es) rest s at m post j h q = absurd-eq (cc)
-sent-first a (G.some xs l) (setup a′ lo hi ∷ es) rest s at m post j h q = no-setup xs j
+sent-first a noGroup (e ∷ es) rest s at m post j h q = absurd-eq (cc)
+sent-first a (oneGroup xs l) (setup a′ lo hi ∷ es) rest s at m post j h q = no-setup xs j
   where
     no-setup : {A : Type 0} (xs : List (List ℕ)) → setup a′ lo hi ∷ (es ++ rest) ≡ group a 0 true xs l → A
     no-setup [] j = absurd-eq (cc)
     no-setup (x ∷ xs) j = absurd-eq (cc)
-sent-first a (G.some xs l) (out a′ n v last x ∷ es) rest s at m post j h q =
+sent-first a (oneGroup xs l) (out a′ n v last x ∷ es) rest s at m post j h q =
     let e = out a′ n v last x in
     let z : n ≡ 0 = zero-end xs j in
     let d = q ∙ append-assoc (encode e) (encodeAll es) (failedBytes m ++ post) in
@@ -362,11 +361,11 @@ first-setup : (a : ℕ) (lo hi : Four) (es : List Entry) (s : List ℕ) (at : �
 unfolding encodeAll
 first-setup a (four b0 b1 b2 b3) (four b4 b5 b6 b7) es s at post k q = go (k .part) (k .is)
   where
-    go : (p : Part) → (setup a (four b0 b1 b2 b3) (four b4 b5 b6 b7) ∷ es) ++ k .rest ≡ entries p
+    go : (p : Part) → (setup a (four b0 b1 b2 b3) (four b4 b5 b6 b7) ∷ es) ++ k .rest ≡ partEntries p
         → itemAt s at ≡ failedItem (record { at = at + length (encode (setup a (four b0 b1 b2 b3) (four b4 b5 b6 b7)) ++ encodeAll es) + 5 })
-    go (bulk a′ n v [] l) j = absurd-eq (cc)
-    go (bulk a′ n v (x ∷ xs) l) j = absurd-eq (cc)
-    go (control a′ lo′ hi′ t) j =
+    go (bulkPart a′ n v [] l) j = absurd-eq (cc)
+    go (bulkPart a′ n v (x ∷ xs) l) j = absurd-eq (cc)
+    go (controlPart a′ lo′ hi′ t) j =
         let e = setup a (four b0 b1 b2 b3) (four b4 b5 b6 b7) in
         let r = failedBytes (suc (length es)) ++ post in
         let h = first-ranged (e ∷ es) k in
@@ -404,41 +403,41 @@ end-quiet : Quiet (look [])
 end-quiet = subst Quiet (sym look-nil) tt
 
 pub segment-bytes : (g : Segment) (gs : List Segment) (ps : List Part)
-    → encodeElements (elements (g ∷ gs) ps) ≡ encodeAll (written (g .whole) ++ g .first) ++ (failedBytes (length (g .first)) ++ encodeElements (elements gs ps))
+    → encodeElements (elements (g ∷ gs) ps) ≡ encodeAll (partsEntries (g .whole) ++ g .first) ++ (failedBytes (length (g .first)) ++ encodeElements (elements gs ps))
 unfolding encodeElements
 segment-bytes g gs ps =
-    elements-append (map entry (written (g .whole) ++ g .first)) (failed (length (g .first)) ∷ elements gs ps)
-    ∙ ap (λ (l : List ℕ). l ++ (failedBytes (length (g .first)) ++ encodeElements (elements gs ps))) (sym (elements-entries (written (g .whole) ++ g .first)))
+    elements-append (map entry (partsEntries (g .whole) ++ g .first)) (failedEntry (length (g .first)) ∷ elements gs ps)
+    ∙ ap (λ (l : List ℕ). l ++ (failedBytes (length (g .first)) ++ encodeElements (elements gs ps))) (sym (elements-entries (partsEntries (g .whole) ++ g .first)))
 
 -- The cursor over a reading: its whole transfers in order, one step over each that failed, and the end.
 pub handed-out : (gs : List Segment) (ps : List Part) (s : List ℕ) (at : ℕ) → SegmentsFit gs → AllFit ps → drop at s ≡ encodeElements (elements gs ps)
     → itemsFrom (moves gs ps) s at ≡ answersFor gs ps at
 handed-out [] ps s at f g q =
-    let b = q ∙ sym (elements-entries (written ps)) ∙ sym (append-nil (encodeAll (written ps))) in
-    let end = at + length (encodeAll (written ps)) in
-    let z : itemAt s end ≡ noItem = item-at s end End (ap look (after-all s at (encodeAll (written ps)) [] b) ∙ look-nil) in
+    let b = q ∙ sym (elements-entries (partsEntries ps)) ∙ sym (append-nil (encodeAll (partsEntries ps))) in
+    let end = at + length (encodeAll (partsEntries ps)) in
+    let z : itemAt s end ≡ noItem = item-at s end End (ap look (after-all s at (encodeAll (partsEntries ps)) [] b) ∙ look-nil) in
     ap (λ (i : ℕ). itemsFrom i s at) (let x : suc (length ps) ≡ length ps + 1 = omega arith in x)
     ∙ all-handed ps 1 [] s at g b end-quiet
     ∙ ap (λ (l : List ItemAnswer). itemsFor ps at ++ l) (one-item 0 s end ∙ ap₂ {C = List ItemAnswer} _∷_ z (none-left s (nextOf (itemAt s end) end)))
 handed-out (g ∷ gs) ps s at f h q =
-    let whole = encodeAll (written (g .whole)) in
+    let before = encodeAll (partsEntries (g .whole)) in
     let first = encodeAll (g .first) in
     let post = encodeElements (elements gs ps) in
     let r = failedBytes (length (g .first)) ++ post in
-    let e = encode-append (written (g .whole)) (g .first) in
-    let q₁ : drop at s ≡ whole ++ (first ++ r) = q ∙ segment-bytes g gs ps ∙ ap (λ (l : List ℕ). l ++ r) e ∙ append-assoc whole first r in
-    let q₂ = after-all s at whole (first ++ r) q₁ in
-    let q₃ = after-all s (at + length whole) first r q₂ in
-    let end = at + length (encodeAll (written (g .whole) ++ g .first)) + 5 in
-    let l = ap length e ∙ length-append whole first in
-    let q₄ : drop end s ≡ post = ap (λ (i : ℕ). drop i s) (let x : end ≡ (at + length whole + length first) + 5 = omega arith in x)
-    ∙ after-all s (at + length whole + length first) (failedBytes (length (g .first))) post q₃ in
+    let e = encode-append (partsEntries (g .whole)) (g .first) in
+    let q₁ : drop at s ≡ before ++ (first ++ r) = q ∙ segment-bytes g gs ps ∙ ap (λ (l : List ℕ). l ++ r) e ∙ append-assoc before first r in
+    let q₂ = after-all s at before (first ++ r) q₁ in
+    let q₃ = after-all s (at + length before) first r q₂ in
+    let end = at + length (encodeAll (partsEntries (g .whole) ++ g .first)) + 5 in
+    let l = ap length e ∙ length-append before first in
+    let q₄ : drop end s ≡ post = ap (λ (i : ℕ). drop i s) (let x : end ≡ (at + length before + length first) + 5 = omega arith in x)
+    ∙ after-all s (at + length before + length first) (failedBytes (length (g .first))) post q₃ in
     let k = moves gs ps in
-    let fh = first-handed (g .first) s (at + length whole) post (f .0 .1) q₂ ∙ ap (λ (i : ℕ). failedItem (record { at = i + 5 })) (let x : (at + length whole) + length first ≡ at + length (encodeAll (written (g .whole) ++ g .first)) = omega arith in x) in
+    let fh = first-handed (g .first) s (at + length before) post (f .0 .1) q₂ ∙ ap (λ (i : ℕ). failedItem (record { at = i + 5 })) (let x : (at + length before) + length first ≡ at + length (encodeAll (partsEntries (g .whole) ++ g .first)) = omega arith in x) in
     all-handed (g .whole) (suc k) (first ++ r) s at (f .0 .0) q₁ (first-quiet (g .first) post (f .0 .1))
     ∙ ap (λ (v : List ItemAnswer). itemsFor (g .whole) at ++ v)
-    (one-item k s (at + length whole)
-    ∙ ap (λ (y : ItemAnswer). y ∷ itemsFrom k s (nextOf y (at + length whole))) fh
+    (one-item k s (at + length before)
+    ∙ ap (λ (y : ItemAnswer). y ∷ itemsFrom k s (nextOf y (at + length before))) fh
     ∙ ap (λ (v : List ItemAnswer). failedItem (record { at = end }) ∷ v) (handed-out gs ps s end (f .1) h q₄))
 
 pub drop-record : (two : Bool) (ms : List Element) → drop 5 (recordIn two ms) ≡ encodeElements ms

@@ -18,15 +18,16 @@ use Rattle.transfers.specs.declared.driver.Stage.the-variants.{Setup as setupSt
 use Rattle.transfers.specs.declared.driver.OutStage.{OutStage}
 use Rattle.transfers.specs.Log.{Write}
 use Rattle.transfers.specs.Registers.{addrEndp, field}
-use Rattle.transfers.specs.Sample.{available}
+use Rattle.record.specs.Chip.{isSet, inHalf}
 use Rattle.transfers.specs.State.{endpointOf}
 use Rattle.transfers.specs.Step.{outPackets, lent}
 use Rattle.record.specs.Grammar.{Entry}
 use Rattle.record.specs.Wire.{File, performs, events, wire}
-use Rattle.record.specs.Calls.{Begin, control, bulk, Call, Effect, note}
+use Rattle.record.specs.Calls.{Begin, controlBegin, bulkBegin, Call, Effect}
 use Rattle.record.specs.Asked.{sentOf, packetsOf, outEntry}
+use Rattle.record.specs.Told.{Live, noTransfer, live, Watch, notArmed, inSlot, taken, seen, note}
 use Rattle.record.specs.Fates.{begunBy}
-use Rattle.record.specs.Told.{Live, none, live, Watch, unarmed, armed, taken, seen, nextLive, nextCount, nextWatch, fails}
+use Rattle.record.proofs.Heard.{nextLive, nextCount, nextWatch, breaks}
 use Rattle.record.proofs.Stages.{address-field, endpoint-field}
 use Rattle.record.proofs.Arming.{Packets, Over}
 use Rattle.record.proofs.Begins.{addressOf, kindOf, requestOf, Checked, Room}
@@ -40,43 +41,43 @@ entriesOf x ks = map (outEntry (addressOf x) (endpointOf (kindOf x))) ks
 
 -- After an IN stage: a control In's status packet.
 abbrev pub dueAfter : Begin → Bool → List Entry
-dueAfter (control a x p s phaseIn) false = map (outEntry a 0) (outCut FixedSize p true [])
-dueAfter (control a x p s phaseIn) true = []
-dueAfter (control a x p s phaseOut) status = []
-dueAfter (control a x p s phaseNone) status = []
-dueAfter (bulk d a e p t b) status = []
+dueAfter (controlBegin a x p s phaseIn) false = map (outEntry a 0) (outCut FixedSize p true [])
+dueAfter (controlBegin a x p s phaseIn) true = []
+dueAfter (controlBegin a x p s phaseOut) status = []
+dueAfter (controlBegin a x p s phaseNone) status = []
+dueAfter (bulkBegin d a e p t b) status = []
 
 -- After SETUP.
 abbrev pub dueSetup : Begin → List ℕ → List Entry
-dueSetup (control a x p s ph) buf = map (outEntry a 0) (packetsOf (control a x p s ph) (sentOf (control a x p s ph) buf))
-dueSetup (bulk d a e p t b) buf = []
+dueSetup (controlBegin a x p s ph) buf = map (outEntry a 0) (packetsOf (controlBegin a x p s ph) (sentOf (controlBegin a x p s ph) buf))
+dueSetup (bulkBegin d a e p t b) buf = []
 
 -- ---- the stages that a transfer goes through, with the count of stages reported complete
 
 abbrev pub InLegal : Begin → List ℕ → Bool → ℕ → Type 0
-InLegal (control a x p s phaseIn) buf false n = n ≡ 1
-InLegal (control a x p s phaseIn) buf true n = ⊥
-InLegal (control a x p s phaseOut) buf false n = ⊥
-InLegal (control a x p s phaseOut) buf true n = s .wLength ≤ length buf
-InLegal (control a x p s phaseNone) buf false n = ⊥
-InLegal (control a x p s phaseNone) buf true n = Unit {0}
-InLegal (bulk In a e p t b) buf false n = Unit {0}
-InLegal (bulk In a e p t b) buf true n = ⊥
-InLegal (bulk Out a e p t b) buf status n = ⊥
+InLegal (controlBegin a x p s phaseIn) buf false n = n ≡ 1
+InLegal (controlBegin a x p s phaseIn) buf true n = ⊥
+InLegal (controlBegin a x p s phaseOut) buf false n = ⊥
+InLegal (controlBegin a x p s phaseOut) buf true n = s .wLength ≤ length buf
+InLegal (controlBegin a x p s phaseNone) buf false n = ⊥
+InLegal (controlBegin a x p s phaseNone) buf true n = Unit {0}
+InLegal (bulkBegin In a e p t b) buf false n = Unit {0}
+InLegal (bulkBegin In a e p t b) buf true n = ⊥
+InLegal (bulkBegin Out a e p t b) buf status n = ⊥
 
 abbrev pub OutLegal : Begin → List ℕ → Bool → ℕ → Type 0
-OutLegal (control a x p s phaseIn) buf false n = ⊥
-OutLegal (control a x p s phaseIn) buf true n = n ≡ 2
-OutLegal (control a x p s phaseOut) buf false n = (n ≡ 1) × (s .wLength ≤ length buf)
-OutLegal (control a x p s phaseOut) buf true n = ⊥
-OutLegal (control a x p s phaseNone) buf status n = ⊥
-OutLegal (bulk In a e p t b) buf status n = ⊥
-OutLegal (bulk Out a e p t b) buf false n = n ≡ 0
-OutLegal (bulk Out a e p t b) buf true n = ⊥
+OutLegal (controlBegin a x p s phaseIn) buf false n = ⊥
+OutLegal (controlBegin a x p s phaseIn) buf true n = n ≡ 2
+OutLegal (controlBegin a x p s phaseOut) buf false n = (n ≡ 1) × (s .wLength ≤ length buf)
+OutLegal (controlBegin a x p s phaseOut) buf true n = ⊥
+OutLegal (controlBegin a x p s phaseNone) buf status n = ⊥
+OutLegal (bulkBegin In a e p t b) buf status n = ⊥
+OutLegal (bulkBegin Out a e p t b) buf false n = n ≡ 0
+OutLegal (bulkBegin Out a e p t b) buf true n = ⊥
 
 abbrev pub IsControl : Begin → Type 0
-IsControl (control a x p s ph) = Unit {0}
-IsControl (bulk d a e p t b) = ⊥
+IsControl (controlBegin a x p s ph) = Unit {0}
+IsControl (bulkBegin d a e p t b) = ⊥
 
 -- ---- the invariant
 
@@ -111,14 +112,14 @@ pub record BusyInv (x : Begin) (buf : List ℕ) (n : ℕ) (w : Watch) (f : File)
   pub stage : StageInv x buf n w f (r .stage) rest
 
 abbrev pub Inv : Live → ℕ → Watch → File → Transfer → List Entry → Type 0
-Inv none n w f Idle rest = rest ≡ []
-Inv none n w f (Busy r) rest = ⊥
+Inv noTransfer n w f Idle rest = rest ≡ []
+Inv noTransfer n w f (Busy r) rest = ⊥
 Inv (live x buf) n w f Idle rest = ⊥
 Inv (live x buf) n w f (Busy r) rest = BusyInv x buf n w f r rest
 
 -- A control Out's buffer holds wLength bytes.
 abbrev pub RoomOf : Live → Type 0
-RoomOf none = Unit {0}
+RoomOf noTransfer = Unit {0}
 RoomOf (live x buf) = Room x buf
 
 -- A call that fails a transfer starts nothing; any other starts the first of what is due.
@@ -130,8 +131,8 @@ Splits false due now after = due ≡ now ++ after
 pub record Kept (l : Live) (n : ℕ) (w : Watch) (f : File) (rest : List Entry) (c : Call) (o : Effect c) : Type 0 where
   pub rest′ : List Entry
   pub inv : Inv (nextLive (note c (o .answer)) l) (nextCount (note c (o .answer)) n) (nextWatch (note c (o .answer)) w (events f (o .writes))) (performs f (o .writes)) (o .next .transfer) rest′
-  pub split : Splits (fails (note c (o .answer))) (rest ++ armedByAll (begunBy (note c (o .answer)))) (wire f (o .writes) (o .memory)) rest′
-  pub room : fails (note c (o .answer)) ≡ false → RoomOf (nextLive (note c (o .answer)) l) → RoomOf l
+  pub split : Splits (breaks (note c (o .answer))) (rest ++ armedByAll (begunBy (note c (o .answer)))) (wire f (o .writes) (o .memory)) rest′
+  pub room : breaks (note c (o .answer)) ≡ false → RoomOf (nextLive (note c (o .answer)) l) → RoomOf l
 
 -- ---- what doesn't touch the wire
 
@@ -143,10 +144,10 @@ pub same-due : (f : File) (ws : List Write) (m : List ℕ) (rest : List Entry) �
 same-due f ws m rest e = append-nil rest ∙ ap (λ (l : List Entry). l ++ rest) (sym (wire-none f ws m e))
 
 pub over-seen : (w : Watch) (y : Sample) (ks : Packets) → Over w ks → Over (seen w y) ks
-over-seen unarmed y ks o = o
-over-seen (armed s) y ks o = go (available (y .buffers) s)
+over-seen notArmed y ks o = o
+over-seen (inSlot s) y ks o = go (isSet (inHalf s 10) (y .buffers))
   where
-    go : (v : Bool) → Over (cond v (armed s) taken) ks
+    go : (v : Bool) → Over (cond v (inSlot s) taken) ks
     go true = o
     go false = o
 over-seen taken y ks o = o
@@ -162,8 +163,8 @@ stage-kept x buf n w v f g (outStage st) rest o e i =
 
 pub inv-kept : (l : Live) (n : ℕ) (w v : Watch) (f g : File) (t : Transfer) (rest : List Entry) → ((ks : Packets) → Over w ks → Over v ks) → g addrEndp ≡ f addrEndp
     → Inv l n w f t rest → Inv l n v g t rest
-inv-kept none n w v f g Idle rest o e i = i
-inv-kept none n w v f g (Busy r) rest o e i = absurd i
+inv-kept noTransfer n w v f g Idle rest o e i = i
+inv-kept noTransfer n w v f g (Busy r) rest o e i = absurd i
 inv-kept (live x buf) n w v f g Idle rest o e i = absurd i
 inv-kept (live x buf) n w v f g (Busy r) rest o e i =
     record { same = i .same; checked = i .checked; stage = stage-kept x buf n w v f g (r .stage) rest o e (i .stage) }

@@ -7,7 +7,7 @@ use Prim.Native.Nat.{ℕ, suc, _+_, _≤_}
 use native.Mathlib.Omega.{arith}
 use lib.ListN.{length, take, drop, length-append}
 use lib.Seq.{sets, sets-eq, length-sets, length-take-le, take-at, drop-at, drop-drop}
-use lib.Dec.{leb}
+use lib.Dec.{eqb, leb}
 use borrow.Author.Tests.{leb-true, ne-eqb}
 use Rattle.transfers.specs.declared.answers.Armed.{Armed}
 use Rattle.transfers.specs.declared.answers.OptionEntries.{OptionEntries}
@@ -15,7 +15,6 @@ use Rattle.transfers.specs.declared.answers.OptionEntries.the-variants.{Some as
 use Rattle.transfers.specs.declared.driver.Driver.{Driver}
 use Rattle.transfers.specs.Answers.{nothingArmed}
 use Rattle.transfers.specs.Driver.{fresh}
-use Rattle.transfers.specs.Memory.{memoryFits}
 use Rattle.record.specs.Segments.{Element, entry}
 use Rattle.record.specs.Calls.{Call, begin, step, cancel, openPipe, closePipe, pollPipe, interrupt, detect, call}
 use Rattle.record.specs.Armed.{entriesArmed}
@@ -87,7 +86,7 @@ grow l₀ a x m l n es h room =
 appended-fine : (l₀ : List ℕ) (a : Armed) (x : OptionEntries) (m : List ℕ) (k : Kept) (es : List Element) → Fine l₀ k es → Fine l₀ (appends a x m k) (es ++ told m a x)
 unfolding appendOf
 appended-fine l₀ a x m refused es h = tt
-appended-fine l₀ a x m (kept l n) es h = go (memoryFits m) (armedInRange a) (leb (n + length (toldBytes a x m n)) (length l)) refl
+appended-fine l₀ a x m (kept l n) es h = go (eqb (length m) 4096) (armedInRange a) (leb (n + length (toldBytes a x m n)) (length l)) refl
   where
     go : (b c r : Bool) → leb (n + length (toldBytes a x m n)) (length l) ≡ r
         → Fine l₀ (keptBy (appendIf b c r (toldBytes a x m n) l n .answer) (appendIf b c r (toldBytes a x m n) l n .bytes)) (es ++ told m a x)
@@ -99,7 +98,7 @@ appended-fine l₀ a x m (kept l n) es h = go (memoryFits m) (armedInRange a) (l
 -- The first call leaves the head alone.
 first : (m l : List ℕ) → Fine l (appends nothingArmed noCount m (kept l 0)) []
 unfolding appendOf toldBytes appended recordOf encodeAll encodeElements
-first m l = go (memoryFits m) (armedInRange nothingArmed) (leb 5 (length l)) refl
+first m l = go (eqb (length m) 4096) (armedInRange nothingArmed) (leb 5 (length l)) refl
   where
     go : (b c r : Bool) → leb 5 (length l) ≡ r → Fine l (keptBy (appendIf b c r headBytes l 0 .answer) (appendIf b c r headBytes l 0 .bytes)) []
     go false c r q = tt

@@ -1,4 +1,4 @@
-pub mod Bits
+pub mod Chips
 pub mod Tied
 pub mod Logs
 pub mod Stages
@@ -8,6 +8,7 @@ pub mod Cuts
 pub mod Begins
 pub mod PlainReading
 pub mod Parts
+pub mod Heard
 pub mod Inv
 pub mod Starting
 pub mod Stepping
@@ -26,9 +27,11 @@ pub mod Automaton
 pub mod OneReading
 pub mod Placing
 pub mod Few
-pub mod Failing
 pub mod Bounded
+pub mod Agreed
+pub mod Failing
 pub mod Counted
+pub mod Staging
 pub mod Looking
 pub mod Turns
 pub mod Decoding
@@ -40,6 +43,5 @@ pub mod OneCapture
 pub mod Keeping
 pub mod Roomy
 pub mod ReadBack
-pub mod Fifteen
 pub mod Exampled
 pub mod Term3

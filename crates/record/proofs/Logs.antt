@@ -15,12 +15,13 @@ use Rattle.transfers.specs.declared.wire.SetupPacket.{SetupPacket}
 use Rattle.transfers.specs.declared.wire.Direction.{Direction}
 use Rattle.transfers.specs.declared.wire.Direction.the-variants.{In, Out}
 use Rattle.transfers.specs.declared.writes.Target.{Target}
-use Rattle.transfers.specs.Log.{Write, wr}
-use Rattle.transfers.specs.Registers.{setupLow, setupHigh, epBuffer, addrEndp, sieCtrl, ones, field, bit, weigh}
+use Rattle.transfers.specs.Log.{Write, wr, masked}
+use Rattle.transfers.specs.Registers.{ones, bit, weigh}
+use Rattle.record.specs.Chip.{setupLow, setupHigh, epBuffer, addrEndp, sieCtrl, field}
 use Rattle.transfers.specs.Writes.{lowWord, highWord, setupWords, setupStart, headWrites, armValue, armWrites, enableWrites, goWrites}
 use Rattle.transfers.specs.Apart.{Apart}
-use Rattle.record.specs.Wire.{File, perform, performs, masked, Event, setupAt, outAt, eventOf, events, slotEvent}
-use Rattle.record.proofs.Bits.{covered, kept}
+use Rattle.record.specs.Wire.{File, perform, performs, Event, setupAt, outAt, eventOf, events, slotEvent}
+use Rattle.transfers.proofs.Masked.{covered, kept}
 
 pub events-append : (f : File) (a b : List Write) → events f (a ++ b) ≡ events f a ++ events (performs f a) b
 events-append f [] b = refl

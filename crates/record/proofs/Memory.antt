@@ -8,6 +8,7 @@ use lib.ListN.{length, take, drop, length-append, length-drop}
 use lib.Seq.{sets, sets-eq, length-sets, drop-at, length-take-le, take-append-le, drop-append-le, drop-append-add, drop-drop, take-append-seam, take-take}
 use Rattle.cutting.proofs.Cutting.{drop-take}
 use Rattle.transfers.specs.Memory.{slotAddress}
+use Rattle.record.specs.Chip.{slotPlace}
 
 module _ (at : ℕ) (bs m : List ℕ) (h : at + length bs ≤ length m) where
   head-length : length (take at m) ≡ at
@@ -56,12 +57,13 @@ module _ (m : List ℕ) (h : length m ≡ 4096) (bs : List ℕ) (k : length bs �
   slot-fits true = omega arith
   slot-fits false = omega arith
 
-  pub slot-same : (s : Bool) → take (length bs) (drop (slotAddress s) (sets m (slotAddress s) bs)) ≡ bs
-  slot-same s = read-same (slotAddress s) bs m (slot-fits s)
+  pub slot-same : (s : Bool) → take (length bs) (drop (slotPlace s) (sets m (slotAddress s) bs)) ≡ bs
+  slot-same true = read-same 0x1C0 bs m (slot-fits true)
+  slot-same false = read-same 0x180 bs m (slot-fits false)
 
   pub slot-room : (s : Bool) → length (sets m (slotAddress s) bs) ≡ 4096
   slot-room s = length-sets m (slotAddress s) bs ∙ h
 
-  pub slot-other : (s : Bool) (n : ℕ) → n ≤ 64 → take n (drop (slotAddress s) (sets m (slotAddress (not s)) bs)) ≡ take n (drop (slotAddress s) m)
+  pub slot-other : (s : Bool) (n : ℕ) → n ≤ 64 → take n (drop (slotPlace s) (sets m (slotAddress (not s)) bs)) ≡ take n (drop (slotPlace s) m)
   slot-other true n j = ap (λ (r : List ℕ). take n r) (read-above 0x180 bs m (slot-fits false) 0x1C0 (omega arith))
   slot-other false n j = read-below 0x1C0 bs m (slot-fits true) 0x180 n (omega arith)

@@ -6,8 +6,8 @@ use Prim.Native.Nat.{ℕ, _+_}
 use native.Mathlib.Omega.{arith}
 use lib.ListN.{length, drop, length-append}
 use Rattle.record.specs.Grammar.{Four, four, setup, out}
-use Rattle.record.specs.Segments.{Element, entry, failed}
-use Rattle.record.specs.Bytes.{bit, encode, failedBytes, encodeElement, encodeElements}
+use Rattle.record.specs.Segments.{Element, entry, failedEntry}
+use Rattle.record.specs.Bytes.{flagByte, encode, failedBytes, encodeElement, encodeElements}
 use Rattle.record.specs.Reader.{look}
 use Rattle.record.specs.declared.look.Look.the-variants.{Failed}
 use Rattle.record.specs.Verdict.{versionNumber, Whole}
@@ -24,7 +24,7 @@ same-front [] (v ∷ b) x y e q = absurd (omega arith)
 same-front (u ∷ a) [] x y e q = absurd (omega arith)
 same-front (u ∷ a) (v ∷ b) x y e q = let k = same-front a b x y (omega arith) (tail-eq-of-cons-eq q) in (ap₂ {C = List ℕ} _∷_ (head-eq-of-cons-eq q) (k .0), k .1)
 
-same-bit : (b c : Bool) → bit b ≡ bit c → b ≡ c
+same-bit : (b c : Bool) → flagByte b ≡ flagByte c → b ≡ c
 same-bit true true e = refl
 same-bit true false e = absurd (omega arith)
 same-bit false true e = absurd (omega arith)
@@ -51,13 +51,13 @@ same-failed n m p q h = let e : Failed n ≡ Failed m = sym (see-failed n p) ∙
 same-element : (m n : Element) (p q : List ℕ) → encodeElement m ++ p ≡ encodeElement n ++ q → (m ≡ n) × (p ≡ q)
 same-element (entry (setup a lo hi)) (entry (setup b lo′ hi′)) p q h = let k = same-setup a b lo hi lo′ hi′ p q h in (ap entry (k .0), k .1)
 same-element (entry (setup a lo hi)) (entry (out b e v w l)) p q h = absurd (let z : _≡_ {A = ℕ} 0x53 0x4F = head-eq-of-cons-eq h in omega arith)
-same-element (entry (setup a lo hi)) (failed n) p q h = absurd (let z : _≡_ {A = ℕ} 0x53 0x58 = head-eq-of-cons-eq h in omega arith)
+same-element (entry (setup a lo hi)) (failedEntry n) p q h = absurd (let z : _≡_ {A = ℕ} 0x53 0x58 = head-eq-of-cons-eq h in omega arith)
 same-element (entry (out a e b v l)) (entry (setup a′ lo hi)) p q h = absurd (let z : _≡_ {A = ℕ} 0x4F 0x53 = head-eq-of-cons-eq h in omega arith)
 same-element (entry (out a e b v l)) (entry (out a′ e′ b′ v′ l′)) p q h = let k = same-out a e b v l a′ e′ b′ v′ l′ p q h in (ap entry (k .0), k .1)
-same-element (entry (out a e b v l)) (failed n) p q h = absurd (let z : _≡_ {A = ℕ} 0x4F 0x58 = head-eq-of-cons-eq h in omega arith)
-same-element (failed n) (entry (setup a lo hi)) p q h = absurd (let z : _≡_ {A = ℕ} 0x58 0x53 = head-eq-of-cons-eq h in omega arith)
-same-element (failed n) (entry (out a e b v l)) p q h = absurd (let z : _≡_ {A = ℕ} 0x58 0x4F = head-eq-of-cons-eq h in omega arith)
-same-element (failed n) (failed m) p q h = let k = same-failed n m p q h in (ap failed (k .0), k .1)
+same-element (entry (out a e b v l)) (failedEntry n) p q h = absurd (let z : _≡_ {A = ℕ} 0x4F 0x58 = head-eq-of-cons-eq h in omega arith)
+same-element (failedEntry n) (entry (setup a lo hi)) p q h = absurd (let z : _≡_ {A = ℕ} 0x58 0x53 = head-eq-of-cons-eq h in omega arith)
+same-element (failedEntry n) (entry (out a e b v l)) p q h = absurd (let z : _≡_ {A = ℕ} 0x58 0x4F = head-eq-of-cons-eq h in omega arith)
+same-element (failedEntry n) (failedEntry m) p q h = let k = same-failed n m p q h in (ap failedEntry (k .0), k .1)
 
 -- ---- a record's bytes
 

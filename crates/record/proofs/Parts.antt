@@ -18,9 +18,8 @@ use Rattle.transfers.specs.declared.host_controller.DataPhase.the-variants.{In 
 use Rattle.transfers.specs.declared.host_controller.TransferExtras.{TransferExtras}
 use Rattle.transfers.specs.declared.wire.SetupPacket.{SetupPacket}
 use Rattle.transfers.specs.declared.wire.Direction.the-variants.{In, Out}
-use Rattle.record.specs.Grammar as G
-use Rattle.record.specs.Grammar.{lengthIn, FourBytes, Bytes, Entry, out, group, bytes, AllOf, Sizes, Part, entries, Fits, bulkItem, controlItem, item}
-use Rattle.record.specs.Calls.{Begin, control, bulk}
+use Rattle.record.specs.Grammar.{wLengthIn, FourBytes, Bytes, Entry, out, group, groupBytes, AllOf, Sizes, Part, partEntries, Fits, bulkItem, controlItem, item, bulkPart, controlPart, noGroup, oneGroup}
+use Rattle.record.specs.Calls.{Begin, controlBegin, bulkBegin}
 use Rattle.record.specs.Armed.{lowBytes, highBytes, setupEntry}
 use Rattle.record.specs.Asked.{TypedSetup, Begun, outEntry, armedBy, itemOf, listed}
 use Rattle.record.proofs.Cuts.{cutAt, cut-is, cut-more, cut-last}
@@ -31,7 +30,7 @@ pub record Halves (t : TransferType) (p : ℕ) (l : List ℕ) : Type 0 where
   pub fulls : List (List ℕ)
   pub final : List ℕ
   pub group-is : (a e : ℕ) (s b : Bool) → group a e b fulls final ≡ map (outEntry a e) (cutAt t p s b l)
-  pub bytes-are : bytes fulls final ≡ l
+  pub bytes-are : groupBytes fulls final ≡ l
   pub full : AllOf p fulls
   pub short : length final ≤ p
   pub some : t ≡ FixedSize → 1 ≤ length l → 1 ≤ length final
@@ -103,7 +102,7 @@ low-are s h = let a = h .2 in (h .0, h .1, omega arith, omega arith)
 pub high-are : (s : SetupPacket) → TypedSetup s → FourBytes (highBytes s)
 high-are s h = let a = h .3 in let b = h .4 in (omega arith, omega arith, omega arith, omega arith)
 
-pub length-in : (s : SetupPacket) → lengthIn (highBytes s) ≡ s .wLength
+pub length-in : (s : SetupPacket) → wLengthIn (highBytes s) ≡ s .wLength
 length-in s = omega arith
 
 -- ---- the part of a transfer
@@ -111,18 +110,18 @@ length-in s = omega arith
 pub record PartOf (g : Begun) : Type 0 where
   pub part : Part
   pub fits : Fits part
-  pub entries-are : entries part ≡ armedBy g
+  pub entries-are : partEntries part ≡ armedBy g
   pub item-is : item part ≡ itemOf g
 
 module _ (a : ℕ) (x : TransferExtras) (p : ℕ) (s : SetupPacket) (buf : List ℕ) where
   abbrev asked : DataPhase → Begun
-  asked ph = record { fields = control a x p s ph; buffer = buf }
+  asked ph = record { fields = controlBegin a x p s ph; buffer = buf }
 
   -- A control that sends one empty packet.
-  empty-part : (ph : DataPhase) → Checked (control a x p s ph) buf → armedBy (asked ph) ≡ setupEntry a s ∷ map (outEntry a 0) (outCut FixedSize p true [])
+  empty-part : (ph : DataPhase) → Checked (controlBegin a x p s ph) buf → armedBy (asked ph) ≡ setupEntry a s ∷ map (outEntry a 0) (outCut FixedSize p true [])
       → itemOf (asked ph) ≡ controlItem a (lowBytes s) (highBytes s) [] → PartOf (asked ph)
   empty-part ph ck e i = record {
-    part = G.control a (lowBytes s) (highBytes s) (G.some [] []);
+    part = controlPart a (lowBytes s) (highBytes s) (oneGroup [] []);
     fits = (ck .addr, low-are s (ck .kind), high-are s (ck .kind), inl (refl, refl));
     entries-are =
         ap (λ (r : List Entry). setupEntry a s ∷ r) (sym (ap (map (outEntry a 0)) (cut-is FixedSize p true [] ∙ cut-last FixedSize p false true [] (ck .low) (le-ltb p 0 (omega arith)))))
@@ -130,14 +129,14 @@ module _ (a : ℕ) (x : TransferExtras) (p : ℕ) (s : SetupPacket) (buf : List 
     item-is = sym i;
   }
 
-  out-part : Checked (control a x p s phaseOut) buf → Bytes buf → s .wLength ≤ length buf → 1 ≤ s .wLength → PartOf (asked phaseOut)
+  out-part : Checked (controlBegin a x p s phaseOut) buf → Bytes buf → s .wLength ≤ length buf → 1 ≤ s .wLength → PartOf (asked phaseOut)
   out-part ck by room pos =
       let l = take (s .wLength) buf in
       let e : length l ≡ s .wLength = length-take-le (s .wLength) buf room in
       let h = halves (length l) FixedSize p l (ck .low) (omega arith) in
       let k = ck .kind .4 in
       record {
-        part = G.control a (lowBytes s) (highBytes s) (G.some (h .fulls) (h .final));
+        part = controlPart a (lowBytes s) (highBytes s) (oneGroup (h .fulls) (h .final));
         fits = (
           ck .addr,
           low-are s (ck .kind),
@@ -152,25 +151,25 @@ module _ (a : ℕ) (x : TransferExtras) (p : ℕ) (s : SetupPacket) (buf : List 
         item-is = ap (λ (r : List ℕ). controlItem a (lowBytes s) (highBytes s) r) (h .bytes-are);
       }
 
-  out-or-empty : (k : ℕ) → Checked (control a x p s phaseOut) buf → Bytes buf → s .wLength ≤ length buf → s .wLength ≡ k → PartOf (asked phaseOut)
+  out-or-empty : (k : ℕ) → Checked (controlBegin a x p s phaseOut) buf → Bytes buf → s .wLength ≤ length buf → s .wLength ≡ k → PartOf (asked phaseOut)
   out-or-empty zero ck by room e =
       empty-part phaseOut ck (ap (λ (n : ℕ). setupEntry a s ∷ map (outEntry a 0) (outCut FixedSize p true (take n buf))) e)
       (ap (λ (n : ℕ). controlItem a (lowBytes s) (highBytes s) (take n buf)) e)
   out-or-empty (suc k) ck by room e = out-part ck by room (omega arith)
 
-  none-part : Checked (control a x p s phaseNone) buf → PartOf (asked phaseNone)
+  none-part : Checked (controlBegin a x p s phaseNone) buf → PartOf (asked phaseNone)
   none-part ck = record {
-    part = G.control a (lowBytes s) (highBytes s) G.none;
+    part = controlPart a (lowBytes s) (highBytes s) noGroup;
     fits = (ck .addr, low-are s (ck .kind), high-are s (ck .kind), tt);
     entries-are = refl;
     item-is = refl;
   }
 
-bulk-part : (a e p : ℕ) (t : TransferType) (b : Bool) (buf : List ℕ) → Checked (bulk Out a e p t b) buf → Bytes buf → PartOf (record { fields = bulk Out a e p t b; buffer = buf })
+bulk-part : (a e p : ℕ) (t : TransferType) (b : Bool) (buf : List ℕ) → Checked (bulkBegin Out a e p t b) buf → Bytes buf → PartOf (record { fields = bulkBegin Out a e p t b; buffer = buf })
 bulk-part a e p t b buf ck by =
     let h = halves (length buf) t p buf (ck .low) (omega arith) in
     record {
-      part = G.bulk a e b (h .fulls) (h .final);
+      part = bulkPart a e b (h .fulls) (h .final);
       fits = (ck .addr, ck .kind .0, ck .kind .1, sizes t p buf h (ck .low) (ck .high) (ck .kind .2) by);
       entries-are = cut-group t p buf h b a e;
       item-is = ap (λ (r : List ℕ). bulkItem a e b r) (h .bytes-are);
@@ -189,8 +188,8 @@ pub data Shape (g : Begun) : Type 0 where
   silent : armedBy g ≡ [] → ((gs : List Begun) → listed (g ∷ gs) ≡ listed gs) → Shape g
 
 pub shape : (x : Begin) (buf : List ℕ) → Proper x buf → Shape (record { fields = x; buffer = buf })
-shape (control a x p s phaseIn) buf h = sends (empty-part a x p s buf phaseIn (h .checked) refl refl) (λ gs. refl)
-shape (control a x p s phaseOut) buf h = sends (out-or-empty a x p s buf (s .wLength) (h .checked) (h .are) (h .room) refl) (λ gs. refl)
-shape (control a x p s phaseNone) buf h = sends (none-part a x p s buf (h .checked)) (λ gs. refl)
-shape (bulk Out a e p t b) buf h = sends (bulk-part a e p t b buf (h .checked) (h .are)) (λ gs. refl)
-shape (bulk In a e p t b) buf h = silent refl (λ gs. refl)
+shape (controlBegin a x p s phaseIn) buf h = sends (empty-part a x p s buf phaseIn (h .checked) refl refl) (λ gs. refl)
+shape (controlBegin a x p s phaseOut) buf h = sends (out-or-empty a x p s buf (s .wLength) (h .checked) (h .are) (h .room) refl) (λ gs. refl)
+shape (controlBegin a x p s phaseNone) buf h = sends (none-part a x p s buf (h .checked)) (λ gs. refl)
+shape (bulkBegin Out a e p t b) buf h = sends (bulk-part a e p t b buf (h .checked) (h .are)) (λ gs. refl)
+shape (bulkBegin In a e p t b) buf h = silent refl (λ gs. refl)

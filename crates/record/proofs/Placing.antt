@@ -10,9 +10,8 @@ use lib.ListN.{length, length-append}
 use lib.Dec.{eqb}
 use borrow.Author.Tests.{eqb-true, eq-eqb, ne-eqb}
 use Rattle.pool.proofs.Cases.{byCases}
-use Rattle.record.specs.Grammar.{four, Entry, setup, out, Part, bulk, control, entries, Fits, AllFit, written, PlainReading}
-use Rattle.record.specs.Grammar as G
-use Rattle.record.specs.Segments.{Element, entry, failed, FirstPart, Segment, SegmentFits, SegmentsFit, upTo, elements, Reading, unfailed}
+use Rattle.record.specs.Grammar.{four, Entry, setup, out, Part, bulkPart, controlPart, partEntries, Fits, AllFit, partsEntries, PlainReading, noGroup}
+use Rattle.record.specs.Segments.{Element, entry, failedEntry, FirstPart, Segment, SegmentFits, SegmentsFit, upTo, elements, Reading, unfailed}
 use Rattle.record.specs.Scan.{guard, feed, feedAll, starts, countAll, Ends, InRange, AllInRange}
 use Rattle.record.specs.Place.{mayEnd, countRight, feedElement, runOn, runAfter, lost, countAfter, Place, Reach, at, refused, reach, stepElement, feedElements, start, ElementInRange, ElementsInRange}
 use Rattle.record.specs.declared.scan.Scan.{Scan}
@@ -28,9 +27,9 @@ fit-append : (a b : List Part) → AllFit a → AllFit b → AllFit (a ++ b)
 fit-append [] b f g = g
 fit-append (q ∷ a) b f g = (f .0, fit-append a b (f .1) g)
 
-written-append : (a b : List Part) → written (a ++ b) ≡ written a ++ written b
+written-append : (a b : List Part) → partsEntries (a ++ b) ≡ partsEntries a ++ partsEntries b
 written-append [] b = refl
-written-append (q ∷ a) b = ap (λ (r : List Entry). entries q ++ r) (written-append a b) ∙ sym (append-assoc (entries q) (written a) (written b))
+written-append (q ∷ a) b = ap (λ (r : List Entry). partEntries q ++ r) (written-append a b) ∙ sym (append-assoc (partEntries q) (partsEntries a) (partsEntries b))
 
 abbrev join : (a b : List Entry) → PlainReading a → PlainReading b → PlainReading (a ++ b)
 join a b k h = record {
@@ -83,12 +82,12 @@ starts-between (setup a lo hi) = refl
 starts-between (out a e b last l) = refl
 
 -- A part's first entry begins an item.
-first-starts : (s : Scan) (q : Part) (e : Entry) (r : List Entry) → Ends (some s) → Fits q → entries q ≡ e ∷ r → starts s e ≡ 1
+first-starts : (s : Scan) (q : Part) (e : Entry) (r : List Entry) → Ends (some s) → Fits q → partEntries q ≡ e ∷ r → starts s e ≡ 1
 first-starts between q e r h f k = starts-between e
-first-starts (afterSetup a w) (control a′ lo hi t) e r h f k = subst (λ (v : Entry). starts (afterSetup a w) v ≡ 1) (head-eq-of-cons-eq k) refl
-first-starts (afterSetup a w) (bulk a′ n b [] l) e r h f k =
+first-starts (afterSetup a w) (controlPart a′ lo hi t) e r h f k = subst (λ (v : Entry). starts (afterSetup a w) v ≡ 1) (head-eq-of-cons-eq k) refl
+first-starts (afterSetup a w) (bulkPart a′ n b [] l) e r h f k =
     subst (λ (v : Entry). starts (afterSetup a w) v ≡ 1) (head-eq-of-cons-eq k) (ap (λ (v : Bool). cond v 0 1) (ne-eqb n 0 (λ (z : n ≡ 0). let y = f .1 in omega arith)))
-first-starts (afterSetup a w) (bulk a′ n b (x ∷ xs) l) e r h f k =
+first-starts (afterSetup a w) (bulkPart a′ n b (x ∷ xs) l) e r h f k =
     subst (λ (v : Entry). starts (afterSetup a w) v ≡ 1) (head-eq-of-cons-eq k) (ap (λ (v : Bool). cond v 0 1) (ne-eqb n 0 (λ (z : n ≡ 0). let y = f .1 in omega arith)))
 first-starts (inBulk a n v p t) q e r h f k = absurd h
 first-starts (inControl a w v p t) q e r h f k = absurd h
@@ -258,14 +257,14 @@ shorter (x ∷ a) b (y ∷ c) d q = go (shorter a b c d (tail-eq-of-cons-eq q))
 
 -- A control with nothing sent.
 bare : Part
-bare = control 0 (four 0 0 0 0) (four 0 0 0 0) G.none
+bare = controlPart 0 (four 0 0 0 0) (four 0 0 0 0) noGroup
 
 pub none-first : FirstPart []
 unfolding bare
-none-first = record { part = bare; fits = (omega arith, (omega arith, omega arith, omega arith, omega arith), (omega arith, omega arith, omega arith, omega arith), tt); rest = entries bare; is = refl }
+none-first = record { part = bare; fits = (omega arith, (omega arith, omega arith, omega arith, omega arith), (omega arith, omega arith, omega arith, omega arith), tt); rest = partEntries bare; is = refl }
 
-abbrev one-part : (q : Part) → Fits q → PlainReading (entries q)
-one-part q f = record { parts = q ∷ []; fit = (f, tt); is = append-nil (entries q) }
+abbrev one-part : (q : Part) → Fits q → PlainReading (partEntries q)
+one-part q f = record { parts = q ∷ []; fit = (f, tt); is = append-nil (partEntries q) }
 
 first-of : (ft : List Entry) (s : Scan) → AllInRange ft → feedAll (some between) ft ≡ some s → countAll (some between) ft ≡ 1 → FirstPart ft
 first-of ft s h f c = let v = plain-reader .viable ft s h f in go (v .0) (v .1 .parts) (v .1 .fit) (v .1 .is)
@@ -279,38 +278,38 @@ first-of ft s h f c = let v = plain-reader .viable ft s h f in go (v .0) (v .1 .
     nil-left (x ∷ a) b e = absurd-eq (cc)
 
     -- A second item would be counted.
-    two : (q : Part) (qs : List Part) (e : Entry) (z post : List Entry) → Fits q → AllFit qs → ft ≡ entries q ++ (e ∷ z) → written qs ≡ e ∷ (z ++ post) → ⊥
+    two : (q : Part) (qs : List Part) (e : Entry) (z post : List Entry) → Fits q → AllFit qs → ft ≡ partEntries q ++ (e ∷ z) → partsEntries qs ≡ e ∷ (z ++ post) → ⊥
     two q [] e z post u w k j = absurd-eq (cc)
     two q (p ∷ qs) e z post u w k j =
-        let a = plain-reader .counts (entries q) (one-part q u) in
-        let t = plain-reader .takes-all (entries q) (one-part q u) in
-        let b = count-append (some between) (entries q) (e ∷ z) in
+        let a = plain-reader .counts (partEntries q) (one-part q u) in
+        let t = plain-reader .takes-all (partEntries q) (one-part q u) in
+        let b = count-append (some between) (partEntries q) (e ∷ z) in
         let d = ap (countAll (some between)) k in
-        let y = second (feedAll (some between) (entries q)) t in
+        let y = second (feedAll (some between) (partEntries q)) t in
         omega arith
       where
         lead : (a b : List Entry) → a ++ b ≡ e ∷ (z ++ post) → ((r : List Entry) × (a ≡ e ∷ r)) ⊎ (a ≡ [])
         lead [] b g = inr refl
         lead (x ∷ a) b g = inl (a, ap (λ (v : Entry). v ∷ a) (head-eq-of-cons-eq g))
 
-        some-entry : (p : Part) → entries p ≡ [] → ⊥
-        some-entry (bulk a n v [] l) g = absurd-eq (cc)
-        some-entry (bulk a n v (x ∷ xs) l) g = absurd-eq (cc)
-        some-entry (control a lo hi t) g = absurd-eq (cc)
+        some-entry : (p : Part) → partEntries p ≡ [] → ⊥
+        some-entry (bulkPart a n v [] l) g = absurd-eq (cc)
+        some-entry (bulkPart a n v (x ∷ xs) l) g = absurd-eq (cc)
+        some-entry (controlPart a lo hi t) g = absurd-eq (cc)
 
-        begun : (s : Scan) → Ends (some s) → ((r : List Entry) × (entries p ≡ e ∷ r)) ⊎ (entries p ≡ []) → starts s e ≡ 1
+        begun : (s : Scan) → Ends (some s) → ((r : List Entry) × (partEntries p ≡ e ∷ r)) ⊎ (partEntries p ≡ []) → starts s e ≡ 1
         begun s t (inl g) = first-starts s p e (g .0) t (w .0) (g .1)
         begun s t (inr g) = absurd (some-entry p g)
 
         second : (o : OptionScan) → Ends o → 1 ≤ countAll o (e ∷ z)
         second none t = absurd t
-        second (some s) t = let y = begun s t (lead (entries p) (written qs) j) in omega arith
+        second (some s) t = let y = begun s t (lead (partEntries p) (partsEntries qs) j) in omega arith
 
-    go : (post : List Entry) (qs : List Part) → AllFit qs → written qs ≡ ft ++ post → FirstPart ft
+    go : (post : List Entry) (qs : List Part) → AllFit qs → partsEntries qs ≡ ft ++ post → FirstPart ft
     go post [] w q = absurd (none-counted ft (nil-left ft post q) c)
-    go post (p ∷ qs) w q = by (shorter (entries p) (written qs) ft post q)
+    go post (p ∷ qs) w q = by (shorter (partEntries p) (partsEntries qs) ft post q)
       where
-        by : ((z : List Entry) × (ft ++ z ≡ entries p)) ⊎ ((e : Entry) × (z : List Entry) × (ft ≡ entries p ++ (e ∷ z)) × (written qs ≡ e ∷ (z ++ post))) → FirstPart ft
+        by : ((z : List Entry) × (ft ++ z ≡ partEntries p)) ⊎ ((e : Entry) × (z : List Entry) × (ft ≡ partEntries p ++ (e ∷ z)) × (partsEntries qs ≡ e ∷ (z ++ post))) → FirstPart ft
         by (inl k) = record { part = p; fits = w .0; rest = k .0; is = k .1 }
         by (inr k) = absurd (two p qs (k .0) (k .1) post (w .0) (w .1) (k .2) (k .3))
 
@@ -343,12 +342,12 @@ record Come (ms : List Element) (p : Place) : Type 0 where
 up-append : (gs : List Segment) (a b : List Element) → upTo gs (a ++ b) ≡ upTo gs a ++ b
 up-append [] a b = refl
 up-append (g ∷ gs) a b =
-    ap (λ (r : List Element). map entry (written (g .whole) ++ g .first) ++ (failed (length (g .first)) ∷ r)) (up-append gs a b)
-    ∙ sym (append-assoc (map entry (written (g .whole) ++ g .first)) (failed (length (g .first)) ∷ upTo gs a) b)
+    ap (λ (r : List Element). map entry (partsEntries (g .whole) ++ g .first) ++ (failedEntry (length (g .first)) ∷ r)) (up-append gs a b)
+    ∙ sym (append-assoc (map entry (partsEntries (g .whole) ++ g .first)) (failedEntry (length (g .first)) ∷ upTo gs a) b)
 
 up-join : (gs hs : List Segment) (r : List Element) → upTo (gs ++ hs) r ≡ upTo gs (upTo hs r)
 up-join [] hs r = refl
-up-join (g ∷ gs) hs r = ap (λ (v : List Element). map entry (written (g .whole) ++ g .first) ++ (failed (length (g .first)) ∷ v)) (up-join gs hs r)
+up-join (g ∷ gs) hs r = ap (λ (v : List Element). map entry (partsEntries (g .whole) ++ g .first) ++ (failedEntry (length (g .first)) ∷ v)) (up-join gs hs r)
 
 segments-append : (gs hs : List Segment) → SegmentsFit gs → SegmentsFit hs → SegmentsFit (gs ++ hs)
 segments-append [] hs f g = g
@@ -377,17 +376,17 @@ come-entry ms p e s′ c h q = record {
 }
 
 -- A count closes a segment.
-close : (ms : List Element) (p : Place) (m k : ℕ) (g : Segment) → (c : Come ms p) → SegmentFits g → written (g .whole) ++ g .first ≡ c .es → length (g .first) ≡ m
-    → k ≡ unfailedIn (c .segments) + length (g .whole) → Come (ms ++ (failed m ∷ [])) (record { scan = between; run = 0; count = k })
+close : (ms : List Element) (p : Place) (m k : ℕ) (g : Segment) → (c : Come ms p) → SegmentFits g → partsEntries (g .whole) ++ g .first ≡ c .es → length (g .first) ≡ m
+    → k ≡ unfailedIn (c .segments) + length (g .whole) → Come (ms ++ (failedEntry m ∷ [])) (record { scan = between; run = 0; count = k })
 close ms p m k g c f e l z = record {
   segments = c .segments ++ (g ∷ []);
   fit = segments-append (c .segments) (g ∷ []) (c .fit) (f, tt);
   es = [];
   is =
       up-join (c .segments) (g ∷ []) []
-      ∙ ap₂ (λ (v : List Entry) (i : ℕ). upTo (c .segments) (map entry v ++ (failed i ∷ []))) e l
-      ∙ up-append (c .segments) (map entry (c .es)) (failed m ∷ [])
-      ∙ ap (λ (r : List Element). r ++ (failed m ∷ [])) (c .is);
+      ∙ ap₂ (λ (v : List Entry) (i : ℕ). upTo (c .segments) (map entry v ++ (failedEntry i ∷ []))) e l
+      ∙ up-append (c .segments) (map entry (c .es)) (failedEntry m ∷ [])
+      ∙ ap (λ (r : List Element). r ++ (failedEntry m ∷ [])) (c .is);
   last = last-nil;
   counted = let y = unfailed-join (c .segments) g in omega arith;
 }
@@ -409,7 +408,7 @@ lost-suc m k = ap (λ (b : Bool). cond b k (k - 1)) (ne-eqb (suc m) 0 (λ (z : s
 
 -- A count that is right.
 come-failed : (ms : List Element) (p : Place) (m : ℕ) → Come ms p → countRight (p .scan) (p .run) m ≡ true
-    → Come (ms ++ (failed m ∷ [])) (record { scan = between; run = 0; count = lost m (p .count) })
+    → Come (ms ++ (failedEntry m ∷ [])) (record { scan = between; run = 0; count = lost m (p .count) })
 unfolding one
 come-failed ms p m c h = byCases (eqb m (p .run))
     (λ (q : eqb m (p .run) ≡ true). all m (p .run) (eqb-true m (p .run) q) (c .last))
@@ -419,13 +418,13 @@ come-failed ms p m c h = byCases (eqb m (p .run))
     let w = whole-of (c .es) (p .scan) (p .run) (c .last) (ends-may (p .scan) (and-right (eqb m 0) (mayEnd (p .scan)) u)) in
     let n = plain-reader .counts (c .es) w in
     let y = c .counted in
-    subst (λ (i : ℕ). Come (ms ++ (failed i ∷ [])) (record { scan = between; run = 0; count = lost i (p .count) })) (sym e)
-    (close ms p 0 (p .count) (record { whole = w .parts; first = [] }) c (w .fit, none-first) (append-nil (written (w .parts)) ∙ w .is) refl (omega arith)))
+    subst (λ (i : ℕ). Come (ms ++ (failedEntry i ∷ [])) (record { scan = between; run = 0; count = lost i (p .count) })) (sym e)
+    (close ms p 0 (p .count) (record { whole = w .parts; first = [] }) c (w .fit, none-first) (append-nil (partsEntries (w .parts)) ∙ w .is) refl (omega arith)))
   where
-    all : (m n : ℕ) → m ≡ n → Last (c .es) (p .scan) n → Come (ms ++ (failed m ∷ [])) (record { scan = between; run = 0; count = lost m (p .count) })
-    all m n e k = subst (λ (i : ℕ). Come (ms ++ (failed i ∷ [])) (record { scan = between; run = 0; count = lost i (p .count) })) (sym e) (at-run n k)
+    all : (m n : ℕ) → m ≡ n → Last (c .es) (p .scan) n → Come (ms ++ (failedEntry m ∷ [])) (record { scan = between; run = 0; count = lost m (p .count) })
+    all m n e k = subst (λ (i : ℕ). Come (ms ++ (failedEntry i ∷ [])) (record { scan = between; run = 0; count = lost i (p .count) })) (sym e) (at-run n k)
       where
-        at-run : (n : ℕ) (k : Last (c .es) (p .scan) n) → Come (ms ++ (failed n ∷ [])) (record { scan = between; run = 0; count = lost n (p .count) })
+        at-run : (n : ℕ) (k : Last (c .es) (p .scan) n) → Come (ms ++ (failedEntry n ∷ [])) (record { scan = between; run = 0; count = lost n (p .count) })
         at-run zero k =
             let y = c .counted in
             let x = k .counted in
@@ -444,9 +443,9 @@ guard-some false s s′ e = absurd-eq (cc)
 come-element : (ms : List Element) (p : Place) (m : Element) (s′ : Scan) → Come ms p → ElementInRange m → feedElement (p .scan) (p .run) m ≡ some s′
     → Come (ms ++ (m ∷ [])) (record { scan = s′; run = runAfter (p .scan) (p .run) m; count = countAfter (p .scan) (p .count) m })
 come-element ms p (entry e) s′ c h q = come-entry ms p e s′ c h q
-come-element ms p (failed m) s′ c h q =
+come-element ms p (failedEntry m) s′ c h q =
     let g = guard-some (countRight (p .scan) (p .run) m) between s′ q in
-    subst (λ (v : Scan). Come (ms ++ (failed m ∷ [])) (record { scan = v; run = 0; count = lost m (p .count) })) (g .1) (come-failed ms p m c (g .0))
+    subst (λ (v : Scan). Come (ms ++ (failedEntry m ∷ [])) (record { scan = v; run = 0; count = lost m (p .count) })) (g .1) (come-failed ms p m c (g .0))
 
 refused-stays : (ms : List Element) → feedElements refused ms ≡ refused
 refused-stays [] = refl
@@ -514,10 +513,10 @@ prefix-fed a b h = go (feedAll (some between) a) refl (subst Ends (feed-append (
 -- A segment's entries: the state that they lead to, the entries of the last item, and the items begun.
 record Taken (g : Segment) : Type 0 where
   scan : Scan
-  fed : feedAll (some between) (written (g .whole) ++ g .first) ≡ some scan
-  right : countRight scan (runs (some between) 0 (written (g .whole) ++ g .first)) (length (g .first)) ≡ true
-  counted : lost (length (g .first)) (countAll (some between) (written (g .whole) ++ g .first)) ≡ length (g .whole)
-  some-count : countAll (some between) (written (g .whole) ++ g .first) ≡ length (g .whole) + one (length (g .first))
+  fed : feedAll (some between) (partsEntries (g .whole) ++ g .first) ≡ some scan
+  right : countRight scan (runs (some between) 0 (partsEntries (g .whole) ++ g .first)) (length (g .first)) ≡ true
+  counted : lost (length (g .first)) (countAll (some between) (partsEntries (g .whole) ++ g .first)) ≡ length (g .whole)
+  some-count : countAll (some between) (partsEntries (g .whole) ++ g .first) ≡ length (g .whole) + one (length (g .first))
 
 or-left : (a b : Bool) → a ≡ true → (a || b) ≡ true
 or-left true b h = refl
@@ -530,8 +529,8 @@ or-right false b h = h
 taken : (ps : List Part) (ft : List Entry) → AllFit ps → FirstPart ft → Taken (record { whole = ps; first = ft })
 unfolding one runs
 taken ps [] f k =
-    let r : PlainReading (written ps ++ []) = record { parts = ps; fit = f; is = sym (append-nil (written ps)) } in
-    let es = written ps ++ [] in
+    let r : PlainReading (partsEntries ps ++ []) = record { parts = ps; fit = f; is = sym (append-nil (partsEntries ps)) } in
+    let es = partsEntries ps ++ [] in
     let t = plain-reader .takes-all es r in
     let u = prefix-fed es [] (subst (λ (v : List Entry). Ends (feedAll (some between) v)) (sym (append-nil es)) t) in
     let c = plain-reader .counts es r in
@@ -544,30 +543,30 @@ taken ps [] f k =
       some-count = omega arith;
     }
 taken ps (e ∷ t) f k =
-    let r : PlainReading (written ps) = record { parts = ps; fit = f; is = refl } in
-    let es = written ps ++ (e ∷ t) in
-    let w = join (written ps) (entries (k .part)) r (one-part (k .part) (k .fits)) in
-    let x : es ++ k .rest ≡ written ps ++ entries (k .part) = append-assoc (written ps) (e ∷ t) (k .rest) ∙ ap (λ (v : List Entry). written ps ++ v) (k .is) in
-    let ends = plain-reader .takes-all (written ps ++ entries (k .part)) w in
+    let r : PlainReading (partsEntries ps) = record { parts = ps; fit = f; is = refl } in
+    let es = partsEntries ps ++ (e ∷ t) in
+    let w = join (partsEntries ps) (partEntries (k .part)) r (one-part (k .part) (k .fits)) in
+    let x : es ++ k .rest ≡ partsEntries ps ++ partEntries (k .part) = append-assoc (partsEntries ps) (e ∷ t) (k .rest) ∙ ap (λ (v : List Entry). partsEntries ps ++ v) (k .is) in
+    let ends = plain-reader .takes-all (partsEntries ps ++ partEntries (k .part)) w in
     let u = prefix-fed es (k .rest) (subst (λ (v : List Entry). Ends (feedAll (some between) v)) (sym x) ends) in
-    let p = prefix-fed (written ps) [] (subst (λ (v : List Entry). Ends (feedAll (some between) v)) (sym (append-nil (written ps))) (plain-reader .takes-all (written ps) r)) in
+    let p = prefix-fed (partsEntries ps) [] (subst (λ (v : List Entry). Ends (feedAll (some between) v)) (sym (append-nil (partsEntries ps))) (plain-reader .takes-all (partsEntries ps) r)) in
     let s₀ = p .0 in
-    let ends₀ : Ends (some s₀) = subst Ends (p .1) (plain-reader .takes-all (written ps) r) in
+    let ends₀ : Ends (some s₀) = subst Ends (p .1) (plain-reader .takes-all (partsEntries ps) r) in
     let st : starts s₀ e ≡ 1 = first-starts s₀ (k .part) e (t ++ k .rest) ends₀ (k .fits) (sym (k .is)) in
     -- counts: all of it, the whole transfers, and what is left for t
-    let c₀ = plain-reader .counts (written ps) r in
-    let c₁ = plain-reader .counts (written ps ++ entries (k .part)) w in
+    let c₀ = plain-reader .counts (partsEntries ps) r in
+    let c₁ = plain-reader .counts (partsEntries ps ++ partEntries (k .part)) w in
     let l₁ = length-append ps (k .part ∷ []) in
-    let a₁ = count-append (some between) (written ps) (entries (k .part)) in
-    let b₁ : countAll (feedAll (some between) (written ps)) (entries (k .part)) ≡ countAll (some s₀) (e ∷ (t ++ k .rest)) =
+    let a₁ = count-append (some between) (partsEntries ps) (partEntries (k .part)) in
+    let b₁ : countAll (feedAll (some between) (partsEntries ps)) (partEntries (k .part)) ≡ countAll (some s₀) (e ∷ (t ++ k .rest)) =
     ap₂ countAll (p .1) (sym (k .is)) in
     let d₁ = count-append (feed s₀ e) t (k .rest) in
     let z : countAll (feed s₀ e) t ≡ 0 = omega arith in
-    let fd : feedAll (some s₀) (e ∷ t) ≡ some (u .0) = sym (ap (λ (o : OptionScan). feedAll o (e ∷ t)) (p .1)) ∙ sym (feed-append (some between) (written ps) (e ∷ t)) ∙ u .1 in
+    let fd : feedAll (some s₀) (e ∷ t) ≡ some (u .0) = sym (ap (λ (o : OptionScan). feedAll o (e ∷ t)) (p .1)) ∙ sym (feed-append (some between) (partsEntries ps) (e ∷ t)) ∙ u .1 in
     let run : runs (some between) 0 es ≡ suc (length t) =
-    runs-append (written ps) (e ∷ t) between s₀ 0 (p .1) ∙ go (feed s₀ e) s₀ refl st fd z (runs (some between) 0 (written ps)) in
-    let a₂ = count-append (some between) (written ps) (e ∷ t) in
-    let b₂ : countAll (feedAll (some between) (written ps)) (e ∷ t) ≡ starts s₀ e + countAll (feed s₀ e) t = ap (λ (o : OptionScan). countAll o (e ∷ t)) (p .1) in
+    runs-append (partsEntries ps) (e ∷ t) between s₀ 0 (p .1) ∙ go (feed s₀ e) s₀ refl st fd z (runs (some between) 0 (partsEntries ps)) in
+    let a₂ = count-append (some between) (partsEntries ps) (e ∷ t) in
+    let b₂ : countAll (feedAll (some between) (partsEntries ps)) (e ∷ t) ≡ starts s₀ e + countAll (feed s₀ e) t = ap (λ (o : OptionScan). countAll o (e ∷ t)) (p .1) in
     record {
       scan = u .0;
       fed = u .1;
@@ -587,7 +586,7 @@ taken ps (e ∷ t) f k =
         let d : countAll (some v) t ≡ 0 = subst (λ (o : OptionScan). countAll o t ≡ 0) q z in
         ap₂ (λ (o : OptionScan) (i : ℕ). runs o (runOn i n) t) q st ∙ runs-on t v s′ 1 g d ∙ omega arith
 
-step-failed : (p : Place) (m : ℕ) → countRight (p .scan) (p .run) m ≡ true → stepElement p (failed m) ≡ at (record { scan = between; run = 0; count = lost m (p .count) })
+step-failed : (p : Place) (m : ℕ) → countRight (p .scan) (p .run) m ≡ true → stepElement p (failedEntry m) ≡ at (record { scan = between; run = 0; count = lost m (p .count) })
 step-failed p m h = ap (λ (b : Bool). reach (guard b between) 0 (lost m (p .count))) h
 
 -- The place at the end of a record.
@@ -604,19 +603,19 @@ lost-add (suc m) k a b h c = let z = lost-suc m (k + a) in omega arith
 
 takes : (gs : List Segment) (ps : List Part) (k : ℕ) → SegmentsFit gs → AllFit ps → Takes k (elements gs ps) (length (unfailed gs ps))
 takes [] ps k f g =
-    let r : PlainReading (written ps) = record { parts = ps; fit = g; is = refl } in
-    let t = plain-reader .takes-all (written ps) r in
-    let u = prefix-fed (written ps) [] (subst (λ (v : List Entry). Ends (feedAll (some between) v)) (sym (append-nil (written ps))) t) in
+    let r : PlainReading (partsEntries ps) = record { parts = ps; fit = g; is = refl } in
+    let t = plain-reader .takes-all (partsEntries ps) r in
+    let u = prefix-fed (partsEntries ps) [] (subst (λ (v : List Entry). Ends (feedAll (some between) v)) (sym (append-nil (partsEntries ps))) t) in
     let p : Place = record { scan = between; run = 0; count = k } in
     record {
-      place = record { scan = u .0; run = runs (some between) 0 (written ps); count = k + countAll (some between) (written ps) };
-      reached = seg (written ps) p (u .0) (u .1);
+      place = record { scan = u .0; run = runs (some between) 0 (partsEntries ps); count = k + countAll (some between) (partsEntries ps) };
+      reached = seg (partsEntries ps) p (u .0) (u .1);
       ends = subst Ends (u .1) t;
-      counted = ap (λ (n : ℕ). k + n) (plain-reader .counts (written ps) r);
+      counted = ap (λ (n : ℕ). k + n) (plain-reader .counts (partsEntries ps) r);
     }
 takes (g ∷ gs) ps k f h =
     let t = taken (g .whole) (g .first) (f .0 .0) (f .0 .1) in
-    let es = written (g .whole) ++ g .first in
+    let es = partsEntries (g .whole) ++ g .first in
     let p : Place = record { scan = between; run = 0; count = k } in
     let q : Place = record { scan = t .scan; run = runs (some between) 0 es; count = k + countAll (some between) es } in
     let m = length (g .first) in
@@ -627,8 +626,8 @@ takes (g ∷ gs) ps k f h =
     record {
       place = ih .place;
       reached =
-          feed-elements-append (at p) (map entry es) (failed m ∷ elements gs ps)
-          ∙ ap (λ (o : Reach). feedElements o (failed m ∷ elements gs ps)) (seg es p (t .scan) (t .fed))
+          feed-elements-append (at p) (map entry es) (failedEntry m ∷ elements gs ps)
+          ∙ ap (λ (o : Reach). feedElements o (failedEntry m ∷ elements gs ps)) (seg es p (t .scan) (t .fed))
           ∙ ap (λ (o : Reach). feedElements o (elements gs ps)) (step-failed q m (t .right))
           ∙ ap (λ (n : ℕ). feedElements (at (record { scan = between; run = 0; count = n })) (elements gs ps)) c
           ∙ ih .reached;

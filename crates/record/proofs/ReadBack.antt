@@ -16,13 +16,13 @@ use Rattle.record.specs.Record.{answeredFrom}
 use Rattle.record.specs.Fates.{endedOf}
 use Rattle.record.specs.Bytes.{encodeElements, recordOf}
 use Rattle.record.specs.Kept.{Kept, kept, keptAll}
-use Rattle.record.specs.Verdict.{recordIn}
+use Rattle.record.specs.Verdict.{recordIn, Reads, isWhole}
 use Rattle.record.specs.Term3.{wireRecord, fates, Premises, Written, ReadBack}
-use Rattle.record.specs.declared.reader.CheckAnswer.the-variants.{Transfers}
+use Rattle.transfers.specs.Reply.{result}
 use Rattle.record.proofs.Counted.{answered}
 use Rattle.record.proofs.Failing.{recorded}
 use Rattle.record.proofs.Keeping.{Holds, Fine, all-fine}
-use Rattle.record.proofs.Verdicts.{version-of, accepts}
+use Rattle.record.proofs.Verdicts.{version-of, answers-only}
 use Rattle.record.proofs.Handing.{drop-record, handed-out}
 use Rattle.record.proofs.Holding.{held}
 
@@ -42,13 +42,15 @@ read f cs t p =
     let g = recorded f cs t p in
     let r = g .reading in
     let ms = wireRecord f cs in
-    let es = listed (endedOf (fates cs)) in
+    let es = listed (endedOf (fates f cs)) in
     let n : length (unfailed (r .segments) (r .last)) ≡ length es = sym (length-map (unfailed (r .segments) (r .last)) item) ∙ ap length (g .transfers) ∙ length-map es itemOf in
     let b = ap (λ (l : List ℕ). drop 5 l) (same-record ms) ∙ drop-record true ms ∙ ap encodeElements (sym (r .is)) in
+    let k : Reads true ms = record { reading = r; plain = λ e. absurd (true≢false e) } in
     record {
       recorded = g;
       version = version-of (recordOf ms) true ms (same-record ms);
-      count = accepts (recordOf ms) true ms (same-record ms) (record { reading = r; plain = λ e. absurd (true≢false e) }) ∙ ap Transfers n;
+      only = λ a v. answers-only (recordOf ms) true ms (same-record ms) k a v ∙ ap result n;
+      verdict = isWhole (record { two = true; ms = ms; is = same-record ms; reads = k }) (ap result (sym n));
       items = handed-out (r .segments) (r .last) (recordOf ms) 5 (r .segments-fit) (r .last-fit) b;
       held = held (recordOf ms) (r .segments) (r .last) 5 b;
     }

@@ -19,7 +19,7 @@ use Rattle.transfers.specs.Answers.{nothingArmed}
 use Rattle.transfers.specs.Driver.{fresh}
 use Rattle.transfers.specs.Memory.{SlotsOnly}
 use Rattle.transfers.proofs.SlotsOnly.{step-slots, begin-control-slots, begin-bulk-in-slots, begin-bulk-out-slots}
-use Rattle.record.specs.Calls.{Begin, control, bulk, Call, begin, step, cancel, openPipe, closePipe, pollPipe, interrupt, detect, call, beginning}
+use Rattle.record.specs.Calls.{Begin, controlBegin, bulkBegin, Call, begin, step, cancel, openPipe, closePipe, pollPipe, interrupt, detect, call, beginning}
 use Rattle.record.specs.Armed.{entriesArmed}
 use Rattle.record.specs.Segments.{Element, entry}
 use Rattle.record.specs.Asked.{AllTyped}
@@ -57,9 +57,9 @@ slots-length : (m m′ : List ℕ) → SlotsOnly m m′ → length m ≡ 4096 �
 slots-length m m′ s e = let q = ap length (s .above) in omega (arith, q, length-drop 0x200 m, length-drop 0x200 m′)
 
 begin-slots : (t : Transfer) (x : Begin) (buf m log : List ℕ) → SlotsOnly m (beginning t x buf m log .memory)
-begin-slots t (control a x p s ph) buf m log = begin-control-slots t a x p s ph buf m log
-begin-slots t (bulk In a e p k b) buf m log = begin-bulk-in-slots t a e p k b buf m log
-begin-slots t (bulk Out a e p k b) buf m log = begin-bulk-out-slots t a e p k b buf m log
+begin-slots t (controlBegin a x p s ph) buf m log = begin-control-slots t a x p s ph buf m log
+begin-slots t (bulkBegin In a e p k b) buf m log = begin-bulk-in-slots t a e p k b buf m log
+begin-slots t (bulkBegin Out a e p k b) buf m log = begin-bulk-out-slots t a e p k b buf m log
 
 none-more : (k : Kept) (r : ℕ) → Room k (0 + r) → Room k r
 none-more k r h = subst (λ (n : ℕ). Room k n) (zero-add r) h

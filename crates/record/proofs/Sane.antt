@@ -22,7 +22,7 @@ use Rattle.transfers.specs.Outcome.{startIn, startOut}
 use Rattle.transfers.specs.Step.{outRetireTwo, polls, acts}
 use Rattle.transfers.specs.Calls.{stepOf}
 use Rattle.transfers.proofs.Armings.{in-two-flight, out-two-flight, out-two-sum}
-use Rattle.record.specs.Calls.{Begin, control, bulk}
+use Rattle.record.specs.Calls.{Begin, controlBegin, bulkBegin}
 use Rattle.record.proofs.Begins.{addressOf, sizeOf, kindOf, requestOf, busy, Checked}
 
 -- At most two in flight, the counters within the stage, and the stage within the buffer.
@@ -37,8 +37,8 @@ Fit x (inStage st) = Within x (st .status) (st .inflight) (st .offset) (st .rema
 Fit x (outStage st) = Within x (st .status) (st .inflight) (st .offset) (st .remain)
 
 kind-good : (x : Begin) (buf : List ℕ) → Checked x buf → kindGood (kindOf x) ≡ true
-kind-good (control a z p s ph) buf ck = refl
-kind-good (bulk d a e p t b) buf ck = rw (le-leb 1 e (ck .kind .0), le-leb e 15 (ck .kind .1))
+kind-good (controlBegin a z p s ph) buf ck = refl
+kind-good (bulkBegin d a e p t b) buf ck = rw (le-leb 1 e (ck .kind .0), le-leb e 15 (ck .kind .1))
 
 request-good : (x : Begin) (buf : List ℕ) → Checked x buf → requestGood (requestOf x buf) ≡ true
 request-good x buf ck = rw (le-leb (addressOf x) 127 (ck .addr), le-leb 1 (sizeOf x) (ck .low), le-leb (sizeOf x) 64 (ck .high)) (kind-good x buf ck)

@@ -26,7 +26,7 @@ use Rattle.record.specs.Wire.{File, performs, Event, events, entryOf, wi
 use Rattle.record.specs.Calls.{Begin}
 use Rattle.record.specs.Armed.{lowBytes, highBytes, setupEntry}
 use Rattle.record.specs.Asked.{TypedSetup, outEntry}
-use Rattle.record.specs.Told.{Watch, unarmed, marks}
+use Rattle.record.specs.Told.{Watch, notArmed, marks}
 use Rattle.record.proofs.Logs.{Silent, setup-event, setup-addr}
 use Rattle.record.proofs.Stages.{startLog, heads, in-two, out-two, armEvents}
 use Rattle.record.proofs.Arming.{Packets, evOf, Over, over-marks, ends-after, two-alike, Two, two}
@@ -92,9 +92,11 @@ module _ (x : Begin) (buf : List ℕ) (w : Watch) (f : File) (can : Bool) (ks : 
 -- ---- an OUT stage begins
 
 module _ (pre : List Write) (x : Begin) (buf : List ℕ) (t : TransferType) (status : Bool) (received n : ℕ) (now m : List ℕ) (f : File) (ks : Packets) where
-  pub start-out : Silent pre → Checked x buf → now ≡ lent status buf → length m ≡ 4096
+  pub start-out : Silent pre → Checked x buf
+      → outArmTwo 0 (outStart t (sizeOf x) (firstPid (kindOf x)) n) 0 now m ≡ outArmTwo 0 (outStart t (sizeOf x) (firstPid (kindOf x)) n) 0 (lent status buf) m
+      → length m ≡ 4096
       → OutLeft (lent status buf) (outStart t (sizeOf x) (firstPid (kindOf x)) n) ks → Ends ks
-      → Armed x buf unarmed f true ks (outArmTwo 0 (outStart t (sizeOf x) (firstPid (kindOf x)) n) 0 now m)
+      → Armed x buf notArmed f true ks (outArmTwo 0 (outStart t (sizeOf x) (firstPid (kindOf x)) n) 0 now m)
       (pre ++ startOut (targetOf (requestOf x buf)) t status received n now m .writes)
       (startOut (targetOf (requestOf x buf)) t status received n now m .stage)
   unfolding startOut
@@ -104,13 +106,24 @@ module _ (pre : List Write) (x : Begin) (buf : List ℕ) (t : TransferType) (sta
       let g = outArmTwo 0 c 0 now m in
       let st = startOut T t status received n now m .stage in
       let b : Two (lent status buf) true ks g =
-      subst (λ (u : List ℕ). Two (lent status buf) true ks (outArmTwo 0 c 0 u m)) (sym same) (two (lent status buf) 0 c ks 0 m full l) in
+      subst (λ (u : OutArmings). Two (lent status buf) true ks u) (sym same) (two (lent status buf) 0 c ks 0 m full l) in
       let h = heads pre (g .writes) (armEvents (g .first) ++ armEvents (g .second)) T n Out sp (out-two 0 c 0 now m) f in
       let ws = startLog pre T n (g .writes) Out in
       let k = two-alike 0 c 0 now m in
-      arming x buf unarmed f true ks g ws st b (h .are)
+      arming x buf notArmed f true ks g ws st b (h .are)
       (shown-by (performs f ws) (addressOf x) (endpointOf (kindOf x)) (ck .addr) (endpoint-small x buf ck) (h .addr)) en tt
       (counters-back (firstPid (kindOf x)) (sizeOf x) (g .packets) (k .pid) (k .size))
+
+-- It starts what it says that it armed.
+pub start-starts : (pre : List Write) (r : Request) (t : TransferType) (status : Bool) (received n : ℕ) (now m : List ℕ) (f : File) → Silent pre
+    → events f (pre ++ startOut (targetOf r) t status received n now m .writes)
+    ≡ armEvents (outArmTwo 0 (outStart t (r .size) (firstPid (r .kind)) n) 0 now m .first) ++ armEvents (outArmTwo 0 (outStart t (r .size) (firstPid (r .kind)) n) 0 now m .second)
+unfolding startOut
+start-starts pre r t status received n now m f sp =
+    let T = targetOf r in
+    let c = outStart t (r .size) (firstPid (r .kind)) n in
+    let g = outArmTwo 0 c 0 now m in
+    heads pre (g .writes) (armEvents (g .first) ++ armEvents (g .second)) T n Out sp (out-two 0 c 0 now m) f .are
 
 -- ---- an IN stage begins
 

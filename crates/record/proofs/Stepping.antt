@@ -42,35 +42,38 @@ use Rattle.transfers.specs.Registers.{bit}
 use Rattle.transfers.specs.Masks.{readyMask}
 use Rattle.transfers.specs.Sample.{Error, errors, firstOf, classify}
 use Rattle.transfers.specs.Writes.{enableWrites, polled, awaits, quiets, completes}
-use Rattle.transfers.specs.Arming.{mayArm, inArmTwo, outArmTwo}
+use Rattle.transfers.specs.Arming.{mayArm, inArmTwo, OutArmings, outArmTwo}
+use Rattle.cutting.specs.declared.packetiser.OptionArm.{OptionArm}
+use Rattle.cutting.specs.declared.packetiser.OptionArm.the-variants.{Some, None}
+use Rattle.cutting.specs.declared.packetiser.OutCounters.{OutCounters}
 use Rattle.transfers.specs.Answers.{nothingArmed, outsArmed}
 use Rattle.transfers.specs.State.{endpointOf, firstPid, targetOf, stageLength}
 use Rattle.transfers.specs.Retiring.{InRetiring, inRetireOne}
 use Rattle.transfers.specs.Outcome.{Outcome, after, flipped, ended, failed as fails, waits, startIn, startOut, entersIn, entersOut}
 use Rattle.transfers.specs.Step.{setupDone, setupStep, inPackets, inReceived, inDone, inSecondDone, inFirstDone, inComplete, inRearm, inSecondMoved, inFirstMoved, inMove, inStep, outPackets, outRetireTwo, outDone, outComplete, outMove, outStep, lent, keeping, polls, acts}
-use Rattle.transfers.specs.Entries.{ends}
 use Rattle.transfers.specs.Calls.{refuses, stepIf, mayStep, stepLent, stepOf}
 use Rattle.transfers.proofs.OpenPipes.{lent-sizes}
 use Rattle.record.specs.Grammar.{Entry}
-use Rattle.record.specs.Wire.{File, performs, events, wire}
-use Rattle.record.specs.Calls.{Begin, control, bulk, step, steps}
-use Rattle.record.specs.Told.{Live, none, live, Watch, unarmed, taken, seen, marks, isComplete, finds}
-use Rattle.record.specs.Premises.{sendsNext, LentIts, TakenIf, StepGood}
+use Rattle.record.specs.Wire.{File, performs, Event, events, wire}
+use Rattle.record.specs.Calls.{Begin, controlBegin, bulkBegin, step, steps}
+use Rattle.record.specs.Told.{Live, noTransfer, live, Watch, notArmed, taken, seen, marks, finds, ends, noteStep}
+use Rattle.record.specs.Premises.{sendsNext, LentIts, LentIf, TakenIf, CallGood}
+use Rattle.record.proofs.Chips.{isComplete, finds-is}
 use Rattle.record.proofs.Logs.{Silent, silent-enable}
 use Rattle.record.proofs.Stages.{between, in-two, out-two, armEvents}
-use Rattle.record.proofs.Arming.{Packets, Over, Two, two, two-alike}
+use Rattle.record.proofs.Arming.{Packets, Over, none-armed, Two, two, two-alike}
 use Rattle.record.proofs.Begins.{addressOf, sizeOf, kindOf, requestOf, Checked, Room}
-use Rattle.record.proofs.Inv.{entriesOf, dueAfter, InLegal, OutLegal, shown-file, Sending, StageInv, BusyInv, Inv, RoomOf, Splits, Kept, wire-none, same-due, over-seen, stage-kept, inv-kept}
-use Rattle.record.proofs.Starting.{counters-back, movedTo, arming, start-out, start-in}
+use Rattle.record.proofs.Inv.{entriesOf, dueAfter, InLegal, OutLegal, shown-file, Sending, StageInv, BusyInv, Inv, Kept, wire-none, same-due, over-seen, stage-kept, inv-kept}
+use Rattle.record.proofs.Starting.{counters-back, movedTo, arming, start-out, start-starts, start-in}
 
 -- ---- an error that a sample shows ends the transfer
 
-abbrev Fatal : Found → Type 0
+abbrev pub Fatal : Found → Type 0
 Fatal Complete = Unit {0}
 Fatal (Failed e) = ends (Usb e) ≡ true
 Fatal Neither = Unit {0}
 
-abbrev FatalPoll : Poll → Type 0
+abbrev pub FatalPoll : Poll → Type 0
 FatalPoll Pending = Unit {0}
 FatalPoll (Ready f) = Fatal f
 
@@ -86,7 +89,7 @@ first-fatal w (e ∷ es) h = by (bit (e .place) w) (first-fatal w es (h .1))
     by true k = h .0
     by false k = k
 
-poll-fatal : (status intr : ℕ) → FatalPoll (classify status intr)
+pub poll-fatal : (status intr : ℕ) → FatalPoll (classify status intr)
 unfolding classify
 poll-fatal status intr = by (eqb (bitAnd intr readyMask) 0) (bit 18 status)
   where
@@ -124,27 +127,42 @@ silent-awaiting = record { are = λ f. refl; addr = λ f. refl }
 -- What a step sends from is what its begin was lent.
 lent-same : (x : Begin) (status : Bool) (n : ℕ) (buf now : List ℕ) → OutLegal x buf status n → LentIts (live x buf) now → lent status now ≡ lent status buf
 lent-same x true n buf now g h = refl
-lent-same (control a z p s phaseIn) false n buf now g h = absurd g
-lent-same (control a z p s phaseOut) false n buf now g h = h
-lent-same (control a z p s phaseNone) false n buf now g h = absurd g
-lent-same (bulk In a e p t b) false n buf now g h = absurd g
-lent-same (bulk Out a e p t b) false n buf now g h = h
+lent-same (controlBegin a z p s phaseIn) false n buf now g h = absurd g
+lent-same (controlBegin a z p s phaseOut) false n buf now g h = h
+lent-same (controlBegin a z p s phaseNone) false n buf now g h = absurd g
+lent-same (bulkBegin In a e p t b) false n buf now g h = absurd g
+lent-same (bulkBegin Out a e p t b) false n buf now g h = h
+
+-- It arms nothing, or was lent what its begin was lent: it arms the same.
+lent-arms : (x : Begin) (status : Bool) (n : ℕ) (buf now : List ℕ) (w : ℕ) (c : OutCounters) (k : ℕ) (m : List ℕ) → OutLegal x buf status n
+    → LentIf (armEvents (outArmTwo w c k (lent status now) m .first) ++ armEvents (outArmTwo w c k (lent status now) m .second)) (live x buf) now
+    → outArmTwo w c k (lent status now) m ≡ outArmTwo w c k (lent status buf) m
+lent-arms x status n buf now w c k m g = by (outArmTwo w c k (lent status now) m .first) (outArmTwo w c k (lent status now) m .second) refl refl
+  where
+    same : LentIts (live x buf) now → outArmTwo w c k (lent status now) m ≡ outArmTwo w c k (lent status buf) m
+    same h = ap (λ (u : List ℕ). outArmTwo w c k u m) (lent-same x status n buf now g h)
+
+    by : (a b : OptionArm) → outArmTwo w c k (lent status now) m .first ≡ a → outArmTwo w c k (lent status now) m .second ≡ b → LentIf (armEvents a ++ armEvents b) (live x buf) now
+        → outArmTwo w c k (lent status now) m ≡ outArmTwo w c k (lent status buf) m
+    by None None p q h = none-armed w c k (lent status now) (lent status buf) m p q
+    by None (Some b) p q h = same h
+    by (Some a) b p q h = same h
 
 -- The next report of an OUT stage is told from the count.
 sends-now : (x : Begin) (buf : List ℕ) (status : Bool) (n : ℕ) → OutLegal x buf status n → sendsNext (live x buf) n ≡ true
-sends-now (control a z p s phaseIn) buf true n g = ap (λ (k : ℕ). eqb k 2) g
-sends-now (control a z p s phaseIn) buf false n g = absurd g
-sends-now (control a z p s phaseOut) buf true n g = absurd g
-sends-now (control a z p s phaseOut) buf false n g = ap (λ (k : ℕ). eqb k 1) (g .0)
-sends-now (control a z p s phaseNone) buf status n g = absurd g
-sends-now (bulk In a e p t b) buf status n g = absurd g
-sends-now (bulk Out a e p t b) buf true n g = absurd g
-sends-now (bulk Out a e p t b) buf false n g = ap (λ (k : ℕ). eqb k 0) g
+sends-now (controlBegin a z p s phaseIn) buf true n g = ap (λ (k : ℕ). eqb k 2) g
+sends-now (controlBegin a z p s phaseIn) buf false n g = absurd g
+sends-now (controlBegin a z p s phaseOut) buf true n g = absurd g
+sends-now (controlBegin a z p s phaseOut) buf false n g = ap (λ (k : ℕ). eqb k 1) (g .0)
+sends-now (controlBegin a z p s phaseNone) buf status n g = absurd g
+sends-now (bulkBegin In a e p t b) buf status n g = absurd g
+sends-now (bulkBegin Out a e p t b) buf true n g = absurd g
+sends-now (bulkBegin Out a e p t b) buf false n g = ap (λ (k : ℕ). eqb k 0) g
 
 -- An OUT stage that is reported complete has no packet left.
 none-due : (x : Begin) (buf : List ℕ) (n : ℕ) (w : Watch) (f : File) (st : OutStage) (rest : List Entry) (y : Sample) → OutLegal x buf (st .status) n
     → Sending x buf w f st rest → finds y ≡ true
-    → TakenIf (sendsNext (live x buf) n && finds y) (seen w y) → rest ≡ []
+    → TakenIf (finds y && sendsNext (live x buf) n) (seen w y) → rest ≡ []
 none-due x buf n w f st rest y g i e h =
     let s : seen w y ≡ taken = rw (sends-now x buf (st .status) n g, e) at h in
     let o : i .packets ≡ [] = subst (λ (v : Watch). Over v (i .packets)) s (over-seen w y (i .packets) (i .over)) in
@@ -156,7 +174,7 @@ module _ (d : Driver) (b : Bool) (y : Sample) (now m log : List ℕ) (n : ℕ) (
   Step x buf rest o = Kept (live x buf) n w f rest (step b y now m log) (steps d b y now m log o)
 
   abbrev Ok : Begin → List ℕ → List Entry → Outcome → Type 0
-  Ok x buf rest o = StepGood (o .answer) (live x buf) n w y now → Step x buf rest o
+  Ok x buf rest o = CallGood (noteStep (o .answer) y now) (live x buf) n w (events f (o .writes)) → Step x buf rest o
 
   -- The buffer doesn't matter.
   keeps : (s : Bool) (x : Begin) (buf : List ℕ) (rest : List Entry) (o : Outcome) → Ok x buf rest (after quietened o)
@@ -169,12 +187,7 @@ module _ (d : Driver) (b : Bool) (y : Sample) (now m log : List ℕ) (n : ℕ) (
   -- A refusal that ends the transfer.
   ok-failed : (x : Begin) (buf : List ℕ) (rest : List Entry) (ws : List Write) (e : UsbError) (bf : List ℕ) → ends (Usb e) ≡ true → Silent (ws ++ [])
       → Ok x buf rest (after ws (fails (requestOf x buf) e m bf))
-  ok-failed x buf rest ws e bf k s h = record {
-    rest′ = [];
-    inv = subst (λ (v : Bool). Inv (cond v none (live x buf)) n (marks (seen w y) (events f (ws ++ []))) (performs f (ws ++ [])) Idle []) (sym k) refl;
-    split = subst (λ (v : Bool). Splits v (rest ++ []) (wire f (ws ++ []) m) []) (sym k) (wire-none f (ws ++ []) m (s .are f));
-    room = λ q r. absurd (true≢false (sym k ∙ q));
-  }
+  ok-failed x buf rest ws e bf k s h = record { rest′ = []; inv = rw k refl; split = rw k (wire-none f (ws ++ []) m (s .are f)); room = λ q r. absurd (true≢false (rw k at q)) }
 
   -- The end with a count: nothing is due.
   ok-done : (x : Begin) (buf : List ℕ) (rest : List Entry) (ws : List Write) (k : ℕ) (t : Bool) (bf : List ℕ) → Silent (ws ++ []) → rest ≡ [] → Room x buf
@@ -189,13 +202,13 @@ module _ (d : Driver) (b : Bool) (y : Sample) (now m log : List ℕ) (n : ℕ) (
   -- Waiting.
   ok-wait : (x : Begin) (buf : List ℕ) → Checked x buf
       → (rest rest′ : List Entry) (st : Stage) (again : Bool) (am : ArmedAnswer) (ws : List Write) (m′ bf : List ℕ) (c : Bool) → finds y ≡ c
-      → StageInv x buf (cond c (suc n) n) (marks (cond c unarmed (seen w y)) (events f ws)) (performs f ws) st rest′ → rest ++ [] ≡ wire f ws m′ ++ rest′
+      → StageInv x buf (cond c (suc n) n) (marks (cond c notArmed (seen w y)) (events f ws)) (performs f ws) st rest′ → rest ++ [] ≡ wire f ws m′ ++ rest′
       → Step x buf rest (waits (requestOf x buf) st again am ws m′ bf)
   ok-wait x buf ck rest rest′ st again am ws m′ bf c e i s = record {
     rest′ = rest′;
     split = s;
     room = λ q r. r;
-    inv = subst (λ (v : Bool). BusyInv x buf (cond v (suc n) n) (marks (cond v unarmed (seen w y)) (events f ws)) (performs f ws) (record { request = requestOf x buf; stage = st }) rest′) (sym e)
+    inv = subst (λ (v : Bool). BusyInv x buf (cond v (suc n) n) (marks (cond v notArmed (seen w y)) (events f ws)) (performs f ws) (record { request = requestOf x buf; stage = st }) rest′) (sym e)
         (record { same = refl; checked = ck; stage = i });
   }
 
@@ -222,7 +235,9 @@ module _ (d : Driver) (b : Bool) (y : Sample) (now m log : List ℕ) (n : ℕ) (
 
   enters-out : (x : Begin) (buf : List ℕ) → Checked x buf → (rest : List Entry) (ws : List Write) (status : Bool) (received k : ℕ) (sent bf : List ℕ) (ks : Packets)
       → Silent ws → finds y ≡ true
-      → OutLegal x buf status (suc n) → sent ≡ lent status buf → length m ≡ 4096 → OutLeft (lent status buf) (outStart FixedSize (sizeOf x) (firstPid (kindOf x)) k) ks
+      → OutLegal x buf status (suc n)
+      → outArmTwo 0 (outStart FixedSize (sizeOf x) (firstPid (kindOf x)) k) 0 sent m ≡ outArmTwo 0 (outStart FixedSize (sizeOf x) (firstPid (kindOf x)) k) 0 (lent status buf) m
+      → length m ≡ 4096 → OutLeft (lent status buf) (outStart FixedSize (sizeOf x) (firstPid (kindOf x)) k) ks
       → Ends ks → rest ≡ entriesOf x ks
       → Step x buf rest (after ws (entersOut (requestOf x buf) status received k sent m bf))
   unfolding startOut
@@ -238,39 +253,43 @@ module _ (d : Driver) (b : Bool) (y : Sample) (now m log : List ℕ) (n : ℕ) (
   setup-done : (x : Begin) (buf : List ℕ) → Checked x buf → (rest : List Entry) → finds y ≡ true → length m ≡ 4096 → StageInv x buf n w f setupStage rest
       → Ok x buf rest (after polledOnly (setupStep Complete (requestOf x buf) now m))
   unfolding setupStep
-  setup-done (control a z p s phaseIn) buf ck rest e full i = by (ltb (length buf) (s .wLength))
+  setup-done (controlBegin a z p s phaseIn) buf ck rest e full i = by (ltb (length buf) (s .wLength))
     where
-      by : (v : Bool) → Ok (control a z p s phaseIn) buf rest (after polledOnly (setupDone phaseIn v (requestOf (control a z p s phaseIn) buf) (s .wLength) now m))
-      by true = ok-failed (control a z p s phaseIn) buf rest polledOnly BufferTooSmall now refl silent-polled
-      by false = λ h. enters-in (control a z p s phaseIn) buf ck rest polledOnly false (s .wLength) now silent-polled e (ap suc (i .1)) (i .2)
-  setup-done (control a z p s phaseOut) buf ck rest e full i = by (ltb (length buf) (s .wLength)) refl
+      by : (v : Bool) → Ok (controlBegin a z p s phaseIn) buf rest (after polledOnly (setupDone phaseIn v (requestOf (controlBegin a z p s phaseIn) buf) (s .wLength) now m))
+      by true = ok-failed (controlBegin a z p s phaseIn) buf rest polledOnly BufferTooSmall now refl silent-polled
+      by false = λ h. enters-in (controlBegin a z p s phaseIn) buf ck rest polledOnly false (s .wLength) now silent-polled e (ap suc (i .1)) (i .2)
+  setup-done (controlBegin a z p s phaseOut) buf ck rest e full i = by (ltb (length buf) (s .wLength)) refl
     where
       by : (v : Bool) → ltb (length buf) (s .wLength) ≡ v
-          → Ok (control a z p s phaseOut) buf rest (after polledOnly (setupDone phaseOut v (requestOf (control a z p s phaseOut) buf) (s .wLength) now m))
-      by true q = ok-failed (control a z p s phaseOut) buf rest polledOnly BufferTooSmall now refl silent-polled
+          → Ok (controlBegin a z p s phaseOut) buf rest (after polledOnly (setupDone phaseOut v (requestOf (controlBegin a z p s phaseOut) buf) (s .wLength) now m))
+      by true q = ok-failed (controlBegin a z p s phaseOut) buf rest polledOnly BufferTooSmall now refl silent-polled
       by false q = λ h.
           let room : s .wLength ≤ length buf = ltb-false (length buf) (s .wLength) q in
           let small = ck .kind .4 in
-          enters-out (control a z p s phaseOut) buf ck rest polledOnly false 0 (s .wLength) now now (outCut FixedSize p true (take (s .wLength) buf)) silent-polled e (ap suc (i .1), room) (h .0) full
+          let x = controlBegin a z p s phaseOut in
+          let g : OutLegal x buf false (suc n) = (ap suc (i .1), room) in
+          let ev = start-starts polledOnly (requestOf x buf) FixedSize false 0 (s .wLength) now m f silent-polled in
+          enters-out x buf ck rest polledOnly false 0 (s .wLength) now now (outCut FixedSize p true (take (s .wLength) buf)) silent-polled e g
+          (lent-arms x false (suc n) buf now 0 (outStart FixedSize p true (s .wLength)) 0 m g (subst (λ (es : List Event). LentIf es (live x buf) now) ev (h .0))) full
           (out-cut FixedSize p true (ck .low) (ck .high) buf (s .wLength) (omega arith) room) (out-ends FixedSize p true (take (s .wLength) buf)) (i .2)
-  setup-done (control a z p s phaseNone) buf ck rest e full i = λ h. enters-in (control a z p s phaseNone) buf ck rest polledOnly true 0 now silent-polled e tt (i .2)
-  setup-done (bulk dir a ep p t c) buf ck rest e full i = absurd (i .0)
+  setup-done (controlBegin a z p s phaseNone) buf ck rest e full i = λ h. enters-in (controlBegin a z p s phaseNone) buf ck rest polledOnly true 0 now silent-polled e tt (i .2)
+  setup-done (bulkBegin dir a ep p t c) buf ck rest e full i = absurd (i .0)
 
   -- ---- an IN stage
 
   in-done : (x : Begin) (buf : List ℕ) → Checked x buf → (rest : List Entry) (status : Bool) (dp : InDepacketiser) (bf : List ℕ) → finds y ≡ true → length m ≡ 4096
       → InLegal x buf status n → rest ≡ dueAfter x status
       → Step x buf rest (after completed (inDone (kindOf x) status (requestOf x buf) dp m bf))
-  in-done (control a z p s phaseIn) buf ck rest false dp bf e full g q =
-      enters-out (control a z p s phaseIn) buf ck rest completed true (dp .offset) 0 [] bf (outCut FixedSize p true []) silent-completed e (ap suc g) refl full
+  in-done (controlBegin a z p s phaseIn) buf ck rest false dp bf e full g q =
+      enters-out (controlBegin a z p s phaseIn) buf ck rest completed true (dp .offset) 0 [] bf (outCut FixedSize p true []) silent-completed e (ap suc g) refl full
       (out-cut FixedSize p true (ck .low) (ck .high) [] 0 (omega arith) (omega arith)) (out-ends FixedSize p true []) q
-  in-done (control a z p s phaseIn) buf ck rest true dp bf e full g q = absurd g
-  in-done (control a z p s phaseOut) buf ck rest false dp bf e full g q = absurd g
-  in-done (control a z p s phaseOut) buf ck rest true dp bf e full g q = ok-done (control a z p s phaseOut) buf rest completed (length buf) false bf silent-completed q g
-  in-done (control a z p s phaseNone) buf ck rest false dp bf e full g q = absurd g
-  in-done (control a z p s phaseNone) buf ck rest true dp bf e full g q = ok-done (control a z p s phaseNone) buf rest completed 0 false bf silent-completed q tt
-  in-done (bulk In a ep p t c) buf ck rest status dp bf e full g q = ok-done (bulk In a ep p t c) buf rest completed (dp .offset) (flipped c (dp .parity)) bf silent-completed q tt
-  in-done (bulk Out a ep p t c) buf ck rest status dp bf e full g q = absurd g
+  in-done (controlBegin a z p s phaseIn) buf ck rest true dp bf e full g q = absurd g
+  in-done (controlBegin a z p s phaseOut) buf ck rest false dp bf e full g q = absurd g
+  in-done (controlBegin a z p s phaseOut) buf ck rest true dp bf e full g q = ok-done (controlBegin a z p s phaseOut) buf rest completed (length buf) false bf silent-completed q g
+  in-done (controlBegin a z p s phaseNone) buf ck rest false dp bf e full g q = absurd g
+  in-done (controlBegin a z p s phaseNone) buf ck rest true dp bf e full g q = ok-done (controlBegin a z p s phaseNone) buf rest completed 0 false bf silent-completed q tt
+  in-done (bulkBegin In a ep p t c) buf ck rest status dp bf e full g q = ok-done (bulkBegin In a ep p t c) buf rest completed (dp .offset) (flipped c (dp .parity)) bf silent-completed q tt
+  in-done (bulkBegin Out a ep p t c) buf ck rest status dp bf e full g q = absurd g
 
   module _ (x : Begin) (buf : List ℕ) (ck : Checked x buf) (rest : List Entry) where
     abbrev X : Request
@@ -315,21 +334,21 @@ module _ (d : Driver) (b : Bool) (y : Sample) (now m log : List ℕ) (n : ℕ) (
 
   out-done : (x : Begin) (buf : List ℕ) → Checked x buf → (rest : List Entry) (st : OutStage) (parity : Bool) (bf : List ℕ) → finds y ≡ true
       → OutLegal x buf (st .status) n
-      → (TakenIf (sendsNext (live x buf) n && finds y) (seen w y) → rest ≡ []) → Ok x buf rest (after completed (outDone (kindOf x) (requestOf x buf) st parity m bf))
+      → (TakenIf (finds y && sendsNext (live x buf) n) (seen w y) → rest ≡ []) → Ok x buf rest (after completed (outDone (kindOf x) (requestOf x buf) st parity m bf))
   out-done x buf ck rest st parity bf e g q = by x (st .status) ck g q
     where
       at : Bool → OutStage
       at v = record { status = v; slot = st .slot; remain = st .remain; offset = st .offset; zlp = st .zlp; retire = st .retire; inflight = st .inflight; received = st .received }
 
-      by : (x : Begin) (v : Bool) → Checked x buf → OutLegal x buf v n → (TakenIf (sendsNext (live x buf) n && finds y) (seen w y) → rest ≡ [])
+      by : (x : Begin) (v : Bool) → Checked x buf → OutLegal x buf v n → (TakenIf (finds y && sendsNext (live x buf) n) (seen w y) → rest ≡ [])
           → Ok x buf rest (after completed (outDone (kindOf x) (requestOf x buf) (at v) parity m bf))
-      by (control a z p s phaseIn) true ck g q = λ h. ok-done (control a z p s phaseIn) buf rest completed (st .received) false bf silent-completed (q (h .1)) tt
-      by (control a z p s phaseIn) false ck g q = absurd g
-      by (control a z p s phaseOut) true ck g q = absurd g
-      by (control a z p s phaseOut) false ck g q = λ h. enters-in (control a z p s phaseOut) buf ck rest completed true 0 bf silent-completed e (g .1) (q (h .1))
-      by (control a z p s phaseNone) v ck g q = absurd g
-      by (bulk In a ep p t c) v ck g q = absurd g
-      by (bulk Out a ep p t c) v ck g q = λ h. ok-done (bulk Out a ep p t c) buf rest completed (length buf) (flipped c parity) bf silent-completed (q (h .1)) tt
+      by (controlBegin a z p s phaseIn) true ck g q = λ h. ok-done (controlBegin a z p s phaseIn) buf rest completed (st .received) false bf silent-completed (q (h .1)) tt
+      by (controlBegin a z p s phaseIn) false ck g q = absurd g
+      by (controlBegin a z p s phaseOut) true ck g q = absurd g
+      by (controlBegin a z p s phaseOut) false ck g q = λ h. enters-in (controlBegin a z p s phaseOut) buf ck rest completed true 0 bf silent-completed e (g .1) (q (h .1))
+      by (controlBegin a z p s phaseNone) v ck g q = absurd g
+      by (bulkBegin In a ep p t c) v ck g q = absurd g
+      by (bulkBegin Out a ep p t c) v ck g q = λ h. ok-done (bulkBegin Out a ep p t c) buf rest completed (length buf) (flipped c parity) bf silent-completed (q (h .1)) tt
 
   module _ (x : Begin) (buf : List ℕ) (ck : Checked x buf) (rest : List Entry) where
     out-complete : (st : OutStage) (wd : ℕ) (bf : List ℕ) → finds y ≡ true → StageInv x buf n w f (outStage st) rest
@@ -351,11 +370,12 @@ module _ (d : Driver) (b : Bool) (y : Sample) (now m log : List ℕ) (n : ℕ) (
         let can = mayArm wd (r .inflight) (st .slot) in
         let last = enableWrites (sizeOf x) (stageLength X (st .status)) in
         let ws = quietened ++ (g .writes ++ last) in
-        let t : Two (lent (st .status) buf) can (o .packets) g =
-        subst (λ (u : List ℕ). Two (lent (st .status) buf) can (o .packets) (outArmTwo wd c (r .inflight) u m)) (sym (lent-same x (st .status) n buf now (i .0) (h .0)))
-        (two (lent (st .status) buf) wd c (o .packets) (r .inflight) m full (o .left)) in
         let s = between quietened (g .writes) last (armEvents (g .first) ++ armEvents (g .second)) silent-quietened (out-two wd c (r .inflight) (lent (st .status) now) m)
         (silent-enable (sizeOf x) (stageLength X (st .status))) in
+        let t : Two (lent (st .status) buf) can (o .packets) g =
+        subst (λ (u : OutArmings). Two (lent (st .status) buf) can (o .packets) u)
+        (sym (lent-arms x (st .status) n buf now wd c (r .inflight) m (i .0) (subst (λ (es : List Event). LentIf es (live x buf) now) (s .are f) (h .0))))
+        (two (lent (st .status) buf) wd c (o .packets) (r .inflight) m full (o .left)) in
         let st′ = movedTo st g (r .parity) in
         let k = two-alike wd c (r .inflight) (lent (st .status) now) m in
         let a = arming x buf (seen w y) f can (o .packets) g ws st′ t (s .are f) (shown-file f (performs f ws) (addressOf x) (endpointOf (kindOf x)) (s .addr f) (o .shown)) (o .ends)
@@ -368,34 +388,30 @@ module _ (d : Driver) (b : Bool) (y : Sample) (now m log : List ℕ) (n : ℕ) (
     step-polls : (st : Stage) (p : Poll) → classify (y .status) (y .intr) ≡ p → length m ≡ 4096 → StageInv x buf n w f st rest
         → Ok x buf rest (polls p (requestOf x buf) st (y .buffers) now m)
     unfolding setupStep inStep outStep
-    step-polls st Pending e full i h = ok-same x buf ck rest st false (polled ∷ awaits ∷ []) silent-awaiting (ap isComplete e) i
-    step-polls setupStage (Ready Complete) e full i h = setup-done x buf ck rest (ap isComplete e) full i h
+    step-polls st Pending e full i h = ok-same x buf ck rest st false (polled ∷ awaits ∷ []) silent-awaiting (finds-is y ∙ ap isComplete e) i
+    step-polls setupStage (Ready Complete) e full i h = setup-done x buf ck rest (finds-is y ∙ ap isComplete e) full i h
     step-polls setupStage (Ready (Failed u)) e full i h = ok-failed x buf rest polledOnly u now (found-ends y u e) silent-polled h
-    step-polls setupStage (Ready Neither) e full i h = ok-same x buf ck rest setupStage true polledOnly silent-polled (ap isComplete e) i
+    step-polls setupStage (Ready Neither) e full i h = ok-same x buf ck rest setupStage true polledOnly silent-polled (finds-is y ∙ ap isComplete e) i
     step-polls (inStage st) (Ready Complete) e full i h =
-        keeps (st .status) x buf rest (inComplete (requestOf x buf) st (y .buffers) (lent (st .status) now) m) (in-complete x buf ck rest st (y .buffers) (lent (st .status) now) (ap isComplete e) full i) h
+        keeps (st .status) x buf rest (inComplete (requestOf x buf) st (y .buffers) (lent (st .status) now) m) (in-complete x buf ck rest st (y .buffers) (lent (st .status) now) (finds-is y ∙ ap isComplete e) full i) h
     step-polls (inStage st) (Ready (Failed u)) e full i h =
         keeps (st .status) x buf rest (fails (requestOf x buf) u m (lent (st .status) now)) (ok-failed x buf rest quietened u (lent (st .status) now) (found-ends y u e) silent-quietened) h
     step-polls (inStage st) (Ready Neither) e full i h =
-        keeps (st .status) x buf rest (inMove (requestOf x buf) st (y .buffers) (lent (st .status) now) m) (in-move x buf ck rest st (y .buffers) (lent (st .status) now) (ap isComplete e) i) h
+        keeps (st .status) x buf rest (inMove (requestOf x buf) st (y .buffers) (lent (st .status) now) m) (in-move x buf ck rest st (y .buffers) (lent (st .status) now) (finds-is y ∙ ap isComplete e) i) h
     step-polls (outStage st) (Ready Complete) e full i h =
-        keeps (st .status) x buf rest (outComplete (requestOf x buf) st (y .buffers) m (lent (st .status) now)) (out-complete st (y .buffers) (lent (st .status) now) (ap isComplete e) i) h
+        keeps (st .status) x buf rest (outComplete (requestOf x buf) st (y .buffers) m (lent (st .status) now)) (out-complete st (y .buffers) (lent (st .status) now) (finds-is y ∙ ap isComplete e) i) h
     step-polls (outStage st) (Ready (Failed u)) e full i h =
         keeps (st .status) x buf rest (fails (requestOf x buf) u m (lent (st .status) now)) (ok-failed x buf rest quietened u (lent (st .status) now) (found-ends y u e) silent-quietened) h
     step-polls (outStage st) (Ready Neither) e full i h =
-        keeps (st .status) x buf rest (outMove (requestOf x buf) st (y .buffers) (lent (st .status) now) m) (out-move st (ap isComplete e) full i) h
+        keeps (st .status) x buf rest (outMove (requestOf x buf) st (y .buffers) (lent (st .status) now) m) (out-move st (finds-is y ∙ ap isComplete e) full i) h
 
 -- ---- the checks before it
 
 step-refused : (d : Driver) (b : Bool) (y : Sample) (now m log : List ℕ) (l : Live) (n : ℕ) (w : Watch) (f : File) (t : Transfer) (rest : List Entry) (why : Refusal)
     → ends why ≡ false
     → Inv l n w f t rest → Kept l n w f rest (step b y now m log) (steps d b y now m log (refuses t why m now))
-step-refused d b y now m log l n w f t rest why e i = record {
-  rest′ = rest;
-  inv = subst (λ (v : Bool). Inv (cond v none l) n (seen w y) f t rest) (sym e) (inv-kept l n w (seen w y) f f t rest (over-seen w y) refl i);
-  split = subst (λ (v : Bool). Splits v (rest ++ []) (wire f [] m) rest) (sym e) (same-due f [] m rest refl);
-  room = λ q r. subst (λ (v : Bool). RoomOf (cond v none l)) e r;
-}
+step-refused d b y now m log l n w f t rest why e i =
+    record { rest′ = rest; inv = rw e (inv-kept l n w (seen w y) f f t rest (over-seen w y) refl i); split = rw e (same-due f [] m rest refl); room = λ q r. rw e at r }
 
 step-acts : (d : Driver) (b : Bool) (y : Sample) (now m log : List ℕ) (x : Begin) (buf : List ℕ) (n : ℕ) (w : Watch) (f : File) (r : Run) (rest : List Entry)
     → length m ≡ 4096 → BusyInv x buf n w f r rest
@@ -407,10 +423,10 @@ step-acts d b y now m log x buf n w f r rest full i =
 
 step-lent : (d : Driver) (b : Bool) (y : Sample) (now m log : List ℕ) (l : Live) (n : ℕ) (w : Watch) (f : File) (t : Transfer) (rest : List Entry) (p : Bool)
     → lentFits m log ≡ p → Inv l n w f t rest
-    → StepGood (stepLent p b t y now m .answer) l n w y now → Kept l n w f rest (step b y now m log) (steps d b y now m log (stepLent p b t y now m))
+    → CallGood (noteStep (stepLent p b t y now m .answer) y now) l n w (events f (stepLent p b t y now m .writes)) → Kept l n w f rest (step b y now m log) (steps d b y now m log (stepLent p b t y now m))
 step-lent d b y now m log l n w f t rest false e i h = step-refused d b y now m log l n w f t rest LentMemory refl i
 step-lent d b y now m log l n w f Idle rest true e i h = step-refused d b y now m log l n w f Idle rest State refl i
-step-lent d b y now m log none n w f (Busy r) rest true e i h = absurd i
+step-lent d b y now m log noTransfer n w f (Busy r) rest true e i h = absurd i
 step-lent d b y now m log (live x buf) n w f (Busy r) rest true e i h = by (mayStep b r) (eqb (length now) (r .request .length)) h
   where
     by : (p q : Bool) → Ok d b y now m log n w f x buf rest (stepIf p q r y now m)
@@ -420,6 +436,6 @@ step-lent d b y now m log (live x buf) n w f (Busy r) rest true e i h = by (mayS
 
 pub step-kept : (d : Driver) (b : Bool) (y : Sample) (now m log : List ℕ) (l : Live) (n : ℕ) (w : Watch) (f : File) (t : Transfer) (rest : List Entry)
     → Inv l n w f t rest
-    → StepGood (stepOf b t y now m log .answer) l n w y now → Kept l n w f rest (step b y now m log) (steps d b y now m log (stepOf b t y now m log))
+    → CallGood (noteStep (stepOf b t y now m log .answer) y now) l n w (events f (stepOf b t y now m log .writes)) → Kept l n w f rest (step b y now m log) (steps d b y now m log (stepOf b t y now m log))
 unfolding stepOf
 step-kept d b y now m log l n w f t rest i h = step-lent d b y now m log l n w f t rest (lentFits m log) refl i h

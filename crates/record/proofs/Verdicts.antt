@@ -8,17 +8,18 @@ use Prim.Native.Nat.{ℕ, zero, suc, _+_, _*_, _-_, _≤_, _<_}
 use native.Mathlib.Omega.{arith}
 use lib.ListN.{length, drop, length-append, length-drop}
 use lib.Seq.{drop-drop, drop-append-seam}
-use lib.Dec.{eqb, leb}
+use lib.Dec.{eqb, leb, lit<}
 use borrow.Author.Tests.{eqb-true, le-leb}
 use Rattle.pool.proofs.Cases.{byCases}
-use Rattle.record.specs.Grammar.{Four, Entry, setup, out, Bytes, group, bytes, AllOf, Sent, SentFits, sentEntries, Part, bulk, control, entries, Fits, AllFit, written}
-use Rattle.record.specs.Grammar as G
-use Rattle.record.specs.Segments.{Element, entry, failed, FirstPart, Segment, SegmentsFit, upTo, elements, Reading, unfailed}
-use Rattle.record.specs.Bytes.{headFor, encodeElement, encodeElements}
+use Rattle.transfers.specs.Reply.{Reply, result}
+use Rattle.record.specs.Refusal.{checkReply}
+use Rattle.record.specs.Grammar.{Four, four, FourBytes, Entry, setup, out, Bytes, group, groupBytes, AllOf, Sent, SentFits, sentEntries, Part, bulkPart, controlPart, partEntries, Fits, AllFit, partsEntries, noGroup, oneGroup}
+use Rattle.record.specs.Segments.{Element, entry, failedEntry, FirstPart, Segment, SegmentsFit, upTo, elements, Reading, unfailed}
+use Rattle.record.specs.Bytes.{headFor, flagByte, fourOf, encodeElement, encodeElements}
 use Rattle.record.specs.Scan.{Ends, AllInRange}
 use Rattle.record.specs.Place.{feedElement, runAfter, countAfter, Place, Reach, at, refused, reach, feedElements, start, ElementsInRange}
 use Rattle.record.specs.Reader.{versionAt, headRight, look, finish, goOn, turnLook, turnOf, readFrom, atHead, checkOf}
-use Rattle.record.specs.Verdict.{versionNumber, recordIn, Ranged, AllRanged, Reads, Viable, NoWayOn, Verdict, mark, field, grammar, unfinished, whole}
+use Rattle.record.specs.Verdict.{versionNumber, recordIn, Ranged, AllRanged, Reads, Viable, NoWayOn, Verdict, noHead, noEntry, noWayOn, unfinished, isWhole}
 use Rattle.record.specs.declared.refusal.Refusal.the-variants.{Mark as badMark, Field, Grammar}
 use Rattle.record.specs.declared.scan.Scan.{Scan}
 use Rattle.record.specs.declared.scan.Scan.the-variants.{Between as between, AfterSetup as afterSetup, InBulk as inBulk, InControl as inControl}
@@ -38,6 +39,9 @@ use Rattle.record.proofs.Encoding.{elements-append, element-one}
 use Rattle.record.proofs.Looking.{Seen, seenEnd, seenBad, seenSetup, seenOut, seenFailed, seen}
 use Rattle.record.proofs.Turns.{read-go, read-stop}
 use Rattle.record.proofs.Decoding.{Decoded, lookElement, look-element, drop-element, turn-element, bytes-drop, setup-decoded, out-decoded, failed-decoded}
+
+abbrev pub Deserved : List ℕ → CheckAnswer → Type 0
+Deserved s a = Verdict s (checkReply a)
 
 -- ---- the head
 
@@ -114,12 +118,12 @@ version-of s two ms q = ap versionAt q ∙ version-in two (encodeElements ms)
 abbrev Plain : List Element → Type 0
 Plain [] = Unit {0}
 Plain (entry e ∷ ms) = Plain ms
-Plain (failed m ∷ ms) = ⊥
+Plain (failedEntry m ∷ ms) = ⊥
 
 plain-ranged : (ms : List Element) → AllRanged false ms → Plain ms
 plain-ranged [] h = tt
 plain-ranged (entry e ∷ ms) h = plain-ranged ms (h .1)
-plain-ranged (failed m ∷ ms) h = absurd (let z : false ≡ true = h .0 .1 in absurd-eq (cc))
+plain-ranged (failedEntry m ∷ ms) h = absurd (let z : false ≡ true = h .0 .1 in absurd-eq (cc))
 
 plain-append : (a : List Element) (b : List Entry) → Plain a → Plain (a ++ map entry b)
 plain-append [] b h = plain b
@@ -128,19 +132,19 @@ plain-append [] b h = plain b
     plain [] = tt
     plain (e ∷ b) = plain b
 plain-append (entry e ∷ a) b h = plain-append a b h
-plain-append (failed m ∷ a) b h = absurd h
+plain-append (failedEntry m ∷ a) b h = absurd h
 
 plain-map : (ms : List Element) → Plain ms → (es : List Entry) × (map entry es ≡ ms)
 plain-map [] h = ([], refl)
 plain-map (entry e ∷ ms) h = let k = plain-map ms h in (e ∷ k .0, ap (λ (r : List Element). entry e ∷ r) (k .1))
-plain-map (failed m ∷ ms) h = absurd h
+plain-map (failedEntry m ∷ ms) h = absurd h
 
 plain-reading : (ms : List Element) → Plain ms → (k : Reading ms) → k .segments ≡ []
 plain-reading ms h k = let p = plain-map ms h in go (k .segments) (k .is ∙ sym (p .1))
   where
     go : (ss : List Segment) → elements ss (k .last) ≡ map entry (plain-map ms h .0) → ss ≡ []
     go [] q = refl
-    go (g ∷ gs) q = no-count (plain-map ms h .0) (written (g .whole) ++ g .first) (length (g .first)) (upTo gs (map entry (written (k .last)))) (sym q)
+    go (g ∷ gs) q = no-count (plain-map ms h .0) (partsEntries (g .whole) ++ g .first) (length (g .first)) (upTo gs (map entry (partsEntries (k .last)))) (sym q)
 
 abbrev reads-of : (two : Bool) (ms : List Element) → AllRanged two ms → Reading ms → Reads two ms
 reads-of two ms h k = record { reading = k; plain = λ (e : two ≡ false). plain-reading ms (plain-ranged ms (subst (λ (v : Bool). AllRanged v ms) e h)) k }
@@ -247,15 +251,15 @@ ends-is : (ms : List Element) (k : Reading ms) (p : Place) → feedElements (at 
 ends-is ms k p f = let t = reader .takes-all ms k in subst (λ (q : Place). Ends (some (q .scan))) (sym (at-same p (t .0) (sym f ∙ t .1))) (t .2)
 
 at-end : (s : List ℕ) (two : Bool) (st : Scan) (r k : ℕ) (ms : List Element) → s ≡ recordIn two ms → AllRanged two ms → feedElements (at start) ms ≡ at (record { scan = st; run = r; count = k })
-    → Verdict s (finish st k)
+    → Deserved s (finish st k)
 at-end s two between r k ms q h f =
     let p : Place = record { scan = between; run = r; count = k } in
     let w = reader .takes-only ms p (in-range two ms h) f tt in
-    whole (record { two = two; ms = ms; is = q; reads = reads-of two ms h w }) (ap Transfers (count-is ms w p f))
+    isWhole (record { two = two; ms = ms; is = q; reads = reads-of two ms h w }) (ap result (count-is ms w p f))
 at-end s two (afterSetup a n) r k ms q h f =
     let p : Place = record { scan = afterSetup a n; run = r; count = k } in
     let w = reader .takes-only ms p (in-range two ms h) f tt in
-    whole (record { two = two; ms = ms; is = q; reads = reads-of two ms h w }) (ap Transfers (count-is ms w p f))
+    isWhole (record { two = two; ms = ms; is = q; reads = reads-of two ms h w }) (ap result (count-is ms w p f))
 at-end s two (inBulk a e v n t) r k ms q h f =
     let p : Place = record { scan = inBulk a e v n t; run = r; count = k } in
     unfinished (record { two = two; ms = ms; is = q; ranged = h; viable = viable-of two ms p h f; unread = λ y. ends-is ms (y .reading) p f }) refl
@@ -270,7 +274,7 @@ nil-of (x ∷ l) e = absurd (omega arith)
 no-look : (m : Element) → lookElement m ≡ Bad → ⊥
 no-look (entry (setup a lo hi)) q = absurd-eq (cc)
 no-look (entry (out a e b last l)) q = absurd-eq (cc)
-no-look (failed m) q = absurd-eq (cc)
+no-look (failedEntry m) q = absurd-eq (cc)
 
 look-nil : look [] ≡ Bad → ⊥
 unfolding look
@@ -279,7 +283,7 @@ look-nil q = absurd-eq (cc)
 pub encode-some : (m : Element) → 1 ≤ length (encodeElement m)
 encode-some (entry (setup a lo hi)) = omega arith
 encode-some (entry (out a e b last l)) = omega arith
-encode-some (failed m) = omega arith
+encode-some (failedEntry m) = omega arith
 
 turn-at : (s : List ℕ) (two : Bool) (p : Progress) (y : Look) → look (drop (p .at) s) ≡ y → turnOf s two p ≡ turnLook two y p
 unfolding turnOf
@@ -307,9 +311,9 @@ not-entry l v q (entry e) r h z = no e (sym (look-element (entry e) r (h .0)) �
     no : (e : Entry) → lookElement (entry e) ≡ Failed v → ⊥
     no (setup a lo hi) k = absurd-eq (cc)
     no (out a e b last l) k = absurd-eq (cc)
-not-entry l v q (failed m) r h z = let y : false ≡ true = h .1 in absurd-eq (cc)
+not-entry l v q (failedEntry m) r h z = let y : false ≡ true = h .1 in absurd-eq (cc)
 
-exact-from : (f : ℕ) (s : List ℕ) (two : Bool) (p : Progress) → Bytes s → length s < f + p .at → p .at ≤ length s → Come s two p → Verdict s (readFrom f s two p)
+exact-from : (f : ℕ) (s : List ℕ) (two : Bool) (p : Progress) → Bytes s → length s < f + p .at → p .at ≤ length s → Come s two p → Deserved s (readFrom f s two p)
 exact-from zero s two p b h i c = absurd (omega arith)
 exact-from (suc f) s two p b h i c = go two c (seen (drop (p .at) s)) (λ two n h′ i′ c′. exact-from f s two n b h′ i′ c′)
   where
@@ -317,32 +321,32 @@ exact-from (suc f) s two p b h i c = go two c (seen (drop (p .at) s)) (λ two n 
     l = drop (p .at) s
 
     Later : Type 0
-    Later = (two : Bool) (n : Progress) → length s < f + n .at → n .at ≤ length s → Come s two n → Verdict s (readFrom f s two n)
+    Later = (two : Bool) (n : Progress) → length s < f + n .at → n .at ≤ length s → Come s two n → Deserved s (readFrom f s two n)
 
-    at-element : (two : Bool) → Come s two p → Decoded two l → Later → Verdict s (readFrom (suc f) s two p)
+    at-element : (two : Bool) → Come s two p → Decoded two l → Later → Deserved s (readFrom (suc f) s two p)
     at-element two c d ih = fork (feedElement (p .scan) (p .run) (d .element)) refl
       where
         t : turnOf s two p ≡ goOn (feedElement (p .scan) (p .run) (d .element)) (p .at + length (encodeElement (d .element))) (runAfter (p .scan) (p .run) (d .element)) (countAfter (p .scan) (p .count) (d .element))
         t = turn-element s two p (d .element) (d .rest) (d .is) (d .ranged) (d .version)
 
-        fork : (o : OptionScan) → feedElement (p .scan) (p .run) (d .element) ≡ o → Verdict s (readFrom (suc f) s two p)
+        fork : (o : OptionScan) → feedElement (p .scan) (p .run) (d .element) ≡ o → Deserved s (readFrom (suc f) s two p)
         fork none w =
-            grammar (no-way-on s two p c (d .element) (d .rest) (d .ranged, d .version) (d .is) w)
-            (read-stop f s two p (Refused Grammar) (t ∙ ap (λ (o : OptionScan). goOn o (p .at + length (encodeElement (d .element))) (runAfter (p .scan) (p .run) (d .element)) (countAfter (p .scan) (p .count) (d .element))) w))
+            noWayOn (no-way-on s two p c (d .element) (d .rest) (d .ranged, d .version) (d .is) w)
+            (ap checkReply (read-stop f s two p (Refused Grammar) (t ∙ ap (λ (o : OptionScan). goOn o (p .at + length (encodeElement (d .element))) (runAfter (p .scan) (p .run) (d .element)) (countAfter (p .scan) (p .count) (d .element))) w)))
         fork (some u) w =
             let n : Progress = record { at = p .at + length (encodeElement (d .element)); scan = u; run = runAfter (p .scan) (p .run) (d .element); count = countAfter (p .scan) (p .count) (d .element) } in
             let g : turnOf s two p ≡ Go n = t ∙ ap (λ (o : OptionScan). goOn o (p .at + length (encodeElement (d .element))) (runAfter (p .scan) (p .run) (d .element)) (countAfter (p .scan) (p .count) (d .element))) w in
             let e = encode-some (d .element) in
             let v′ = length-drop (p .at) s in
             let z = ap length (d .is) ∙ length-append (encodeElement (d .element)) (d .rest) in
-            subst (Verdict s) (sym (read-go f s two p n g)) (ih two n (omega arith) (omega arith) (come-on s two p c (d .element) (d .rest) u (d .ranged, d .version) (d .is) w))
+            subst (Deserved s) (sym (read-go f s two p n g)) (ih two n (omega arith) (omega arith) (come-on s two p c (d .element) (d .rest) u (d .ranged, d .version) (d .is) w))
 
-    go : (two : Bool) → Come s two p → Seen l (look l) → Later → Verdict s (readFrom (suc f) s two p)
+    go : (two : Bool) → Come s two p → Seen l (look l) → Later → Deserved s (readFrom (suc f) s two p)
     go two c (seenEnd z q) ih =
-        subst (Verdict s) (sym (read-stop f s two p (finish (p .scan) (p .count)) (turn-at s two p End q)))
+        subst (Deserved s) (sym (read-stop f s two p (finish (p .scan) (p .count)) (turn-at s two p End q)))
         (at-end s two (p .scan) (p .run) (p .count) (c .done) (c .is ∙ ap (λ (v : List ℕ). recordIn two (c .done) ++ v) (nil-of l z) ∙ append-nil (recordIn two (c .done))) (c .ranged) (c .fed))
     go two c (seenBad q) ih =
-        field (record {
+        noEntry (record {
           two = two;
           ms = c .done;
           rest = l;
@@ -350,14 +354,14 @@ exact-from (suc f) s two p b h i c = go two c (seen (drop (p .at) s)) (λ two n 
           ranged = c .ranged;
           viable = viable-of two (c .done) (placeOf p) (c .ranged) (c .fed);
           more = λ z. look-nil (subst (λ (v : List ℕ). look v ≡ Bad) z q);
-          none = λ m r h z. no-look m (sym (look-element m r (h .0)) ∙ subst (λ (v : List ℕ). look v ≡ Bad) z q);
+          no-entry = λ m r h z. no-look m (sym (look-element m r (h .0)) ∙ subst (λ (v : List ℕ). look v ≡ Bad) z q);
         })
-        (read-stop f s two p (Refused Field) (turn-at s two p Bad q))
+        (ap checkReply (read-stop f s two p (Refused Field) (turn-at s two p Bad q)))
     go two c (seenSetup k m a q) ih = at-element two c (setup-decoded two l (bytes-drop (p .at) s b) k m a) ih
     go two c (seenOut m q) ih = at-element two c (out-decoded two l (bytes-drop (p .at) s b) m) ih
     go true c (seenFailed k m q) ih = at-element true c (failed-decoded l (bytes-drop (p .at) s b) k m) ih
     go false c (seenFailed k m q) ih =
-        field (record {
+        noEntry (record {
           two = false;
           ms = c .done;
           rest = l;
@@ -365,9 +369,9 @@ exact-from (suc f) s two p b h i c = go two c (seen (drop (p .at) s)) (λ two n 
           ranged = c .ranged;
           viable = viable-of false (c .done) (placeOf p) (c .ranged) (c .fed);
           more = λ z. let y : length l ≡ 0 = ap length z in omega (arith, y, m);
-          none = not-entry l _ q;
+          no-entry = not-entry l _ q;
         })
-        (read-stop f s false p (Refused Field) (turn-at s false p (Failed _) q))
+        (ap checkReply (read-stop f s false p (Refused Field) (turn-at s false p (Failed _) q)))
 
 none-yet : (two : Bool) (r : List ℕ) → headFor (versionNumber two) ++ r ≡ recordIn two [] ++ r
 unfolding recordIn encodeElements
@@ -375,7 +379,7 @@ none-yet true r = refl
 none-yet false r = refl
 
 -- The check answers what the bytes deserve.
-pub deserved : (s : List ℕ) → Bytes s → Verdict s (checkOf s)
+pub deserved : (s : List ℕ) → Bytes s → Deserved s (checkOf s)
 unfolding checkOf
 deserved s b = byCases (headRight s)
     (λ (h : headRight s ≡ true).
@@ -385,7 +389,7 @@ deserved s b = byCases (headRight s)
     rw (h, q .version) (exact-from (suc (length s)) s (q .two) atHead b (omega arith) (omega arith)
     (record { done = []; is = q .is ∙ none-yet (q .two) (drop 5 s); ranged = tt; fed = refl })))
     (λ (h : headRight s ≡ false).
-    rw h (mark (record { no-head = λ two r q. false-true (sym h ∙ ap headRight q ∙ head-right two r) }) refl))
+    rw h (noHead (record { no-head = λ two r q. false-true (sym h ∙ ap headRight q ∙ head-right two r) }) refl))
   where
     false-true : false ≡ true → ⊥
     false-true e = absurd-eq (cc)
@@ -497,37 +501,37 @@ bytes-right [] b h = h
 bytes-right (x ∷ a) b h = bytes-right a b (h .1)
 
 -- The entries of a record of the grammar lie in their ranges.
-group-ranged : (a n : ℕ) (v : Bool) (xs : List (List ℕ)) (l : List ℕ) (p : ℕ) → a ≤ 127 → n ≤ 15 → p ≤ 64 → AllOf p xs → length l ≤ 64 → Bytes (bytes xs l) → AllInRange (group a n v xs l)
+group-ranged : (a n : ℕ) (v : Bool) (xs : List (List ℕ)) (l : List ℕ) (p : ℕ) → a ≤ 127 → n ≤ 15 → p ≤ 64 → AllOf p xs → length l ≤ 64 → Bytes (groupBytes xs l) → AllInRange (group a n v xs l)
 group-ranged a n v [] l p ha hn hp f s b = ((ha, hn, s, b), tt)
 group-ranged a n v (x ∷ xs) l p ha hn hp f s b =
     let u = f .0 in
-    ((ha, hn, omega arith, bytes-left x (bytes xs l) b), group-ranged a n (not v) xs l p ha hn hp (f .1) s (bytes-right x (bytes xs l) b))
+    ((ha, hn, omega arith, bytes-left x (groupBytes xs l) b), group-ranged a n (not v) xs l p ha hn hp (f .1) s (bytes-right x (groupBytes xs l) b))
 
 sent-ranged : (a : ℕ) (hi : Four) (s : Sent) → a ≤ 127 → SentFits hi s → AllInRange (sentEntries a s)
-sent-ranged a hi G.none ha f = tt
-sent-ranged a hi (G.some xs l) ha (inl f) = subst (λ (v : List (List ℕ)). AllInRange (group a 0 true v l)) (sym (f .0)) (subst (λ (v : List ℕ). AllInRange (group a 0 true [] v)) (sym (f .1)) ((ha, omega arith, omega arith, tt), tt))
-sent-ranged a hi (G.some xs l) ha (inr f) =
+sent-ranged a hi noGroup ha f = tt
+sent-ranged a hi (oneGroup xs l) ha (inl f) = subst (λ (v : List (List ℕ)). AllInRange (group a 0 true v l)) (sym (f .0)) (subst (λ (v : List ℕ). AllInRange (group a 0 true [] v)) (sym (f .1)) ((ha, omega arith, omega arith, tt), tt))
+sent-ranged a hi (oneGroup xs l) ha (inr f) =
     let z = f .0 in
     let u = z .short in
     let w = z .high in
     group-ranged a 0 true xs l (z .p) ha (omega arith) (z .high) (z .full) (omega arith) (z .are)
 
-pub part-ranged : (q : Part) → Fits q → AllInRange (entries q)
-part-ranged (bulk a n v xs l) f =
+pub part-ranged : (q : Part) → Fits q → AllInRange (partEntries q)
+part-ranged (bulkPart a n v xs l) f =
     let z = f .3 in
     let u = z .short in
     let w = z .high in
     group-ranged a n v xs l (z .p) (f .0) (f .2) (z .high) (z .full) (omega arith) (z .are)
-part-ranged (control a lo hi s) f = ((f .0, f .1, f .2), sent-ranged a hi s (f .0) (f .3))
+part-ranged (controlPart a lo hi s) f = ((f .0, f .1, f .2), sent-ranged a hi s (f .0) (f .3))
 
 -- The entries of a record lie in their ranges.
 map-ranged : (es : List Entry) → AllInRange es → AllRanged true (map entry es)
 map-ranged [] h = tt
 map-ranged (e ∷ es) h = ((h .0, tt), map-ranged es (h .1))
 
-entries-ranged : (qs : List Part) → AllFit qs → AllInRange (written qs)
+entries-ranged : (qs : List Part) → AllFit qs → AllInRange (partsEntries qs)
 entries-ranged [] f = tt
-entries-ranged (q ∷ qs) f = both (entries q) (written qs) (part-ranged q (f .0)) (entries-ranged qs (f .1))
+entries-ranged (q ∷ qs) f = both (partEntries q) (partsEntries qs) (part-ranged q (f .0)) (entries-ranged qs (f .1))
   where
     both : (a b : List Entry) → AllInRange a → AllInRange b → AllInRange (a ++ b)
     both [] b h k = k
@@ -545,25 +549,25 @@ pub first-ranged : (es : List Entry) → FirstPart es → AllInRange es
 first-ranged es k = left-ranged es (k .rest) (subst AllInRange (sym (k .is)) (part-ranged (k .part) (k .fits)))
 
 elements-ranged : (ss : List Segment) (ps : List Part) → SegmentsFit ss → AllFit ps → AllRanged true (elements ss ps)
-elements-ranged [] ps f g = map-ranged (written ps) (entries-ranged ps g)
+elements-ranged [] ps f g = map-ranged (partsEntries ps) (entries-ranged ps g)
 elements-ranged (s ∷ ss) ps f g =
-    let es = written (s .whole) ++ s .first in
+    let es = partsEntries (s .whole) ++ s .first in
     let n = first-few (s .first) (f .0 .1) in
-    all-append true (map entry es) (failed (length (s .first)) ∷ elements ss ps) (map-ranged es (join-ranged (written (s .whole)) (s .first) (entries-ranged (s .whole) (f .0 .0)) (first-ranged (s .first) (f .0 .1))))
+    all-append true (map entry es) (failedEntry (length (s .first)) ∷ elements ss ps) (map-ranged es (join-ranged (partsEntries (s .whole)) (s .first) (entries-ranged (s .whole) (f .0 .0)) (first-ranged (s .first) (f .0 .1))))
     ((omega arith, refl), elements-ranged ss ps (f .1) g)
 
 plain-true : (ms : List Element) → AllRanged true ms → Plain ms → AllRanged false ms
 plain-true [] h p = tt
 plain-true (entry e ∷ ms) h p = ((h .0 .0, tt), plain-true ms (h .1) p)
-plain-true (failed m ∷ ms) h p = absurd p
+plain-true (failedEntry m ∷ ms) h p = absurd p
 
 reads-ranged : (two : Bool) (ms : List Element) → Reads two ms → AllRanged two ms
 reads-ranged true ms r = let k = r .reading in subst (AllRanged true) (k .is) (elements-ranged (k .segments) (k .last) (k .segments-fit) (k .last-fit))
 reads-ranged false ms r =
     let k = r .reading in
     let h : AllRanged true ms = subst (AllRanged true) (k .is) (elements-ranged (k .segments) (k .last) (k .segments-fit) (k .last-fit)) in
-    let e : map entry (written (k .last)) ≡ ms = ap (λ (ss : List Segment). elements ss (k .last)) (sym (r .plain refl)) ∙ k .is in
-    plain-true ms h (subst Plain e (plain-append [] (written (k .last)) tt))
+    let e : map entry (partsEntries (k .last)) ≡ ms = ap (λ (ss : List Segment). elements ss (k .last)) (sym (r .plain refl)) ∙ k .is in
+    plain-true ms h (subst Plain e (plain-append [] (partsEntries (k .last)) tt))
 
 -- Every encoding of a record of the grammar is accepted, with as many transfers as didn't fail.
 pub accepts : (s : List ℕ) (two : Bool) (ms : List Element) → s ≡ recordIn two ms → (r : Reads two ms) → checkOf s ≡ Transfers (length (unfailed (r .reading .segments) (r .reading .last)))
@@ -574,33 +578,69 @@ accepts s two ms q r =
     at-the-end s two ms (f .0) z ∙ finish-whole (f .0 .scan) (f .0 .count) (ends-is ms (r .reading) (f .0) (f .1)) ∙ ap Transfers (count-is ms (r .reading) (f .0) (f .1))
 
 -- An answer that the bytes deserve is the check's.
-pub only-deserved : (s : List ℕ) (a : CheckAnswer) → Bytes s → Verdict s a → checkOf s ≡ a
-only-deserved s a b (mark u q) = unmarked ∙ sym q
+pub only-deserved : (s : List ℕ) (a : Reply ℕ) → Bytes s → Verdict s a → checkReply (checkOf s) ≡ a
+only-deserved s a b (noHead u q) = ap checkReply unmarked ∙ sym q
   where
     unmarked : checkOf s ≡ Refused badMark
     unmarked = byCases (headRight s)
         (λ (h : headRight s ≡ true). let k = head-is s b h in absurd (u .no-head (k .two) (drop 5 s) (k .is)))
         (λ (h : headRight s ≡ false). check-unmarked s h)
-only-deserved s a b (field u q) =
+only-deserved s a b (noEntry u q) =
     let f = fed-of (u .two) (u .ms) (u .viable) in
     let r = arrive s (u .two) (u .ms) (u .rest) (f .0) (u .is) (u .ranged) (f .1) in
     let p = landed atHead (u .ms) (f .0) in
     let br : Bytes (u .rest) = subst Bytes (r .left) (bytes-drop (5 + length (encodeElements (u .ms))) s b) in
-    r .same ∙ read-stop (r .fuel) s (u .two) p (Refused Field) (bad-turn s (u .two) p (u .rest) (r .left) br (u .more) (u .none)) ∙ sym q
-only-deserved s a b (grammar u q) =
+    ap checkReply (r .same ∙ read-stop (r .fuel) s (u .two) p (Refused Field) (bad-turn s (u .two) p (u .rest) (r .left) br (u .more) (u .no-entry))) ∙ sym q
+only-deserved s a b (noWayOn u q) =
     let f = fed-of (u .two) (u .ms) (u .viable) in
     let r = arrive s (u .two) (u .ms) (encodeElement (u .m) ++ u .rest) (f .0) (u .is) (u .ranged) (f .1) in
     let p = landed atHead (u .ms) (f .0) in
     let w = stuck-none (u .two) (u .ms) (u .m) (f .0) (u .ranged) (u .last-ranged) (f .1) (u .stuck) in
     let t = turn-element s (u .two) p (u .m) (u .rest) (r .left) (u .last-ranged .0) (u .last-ranged .1) in
-    r .same
-    ∙ read-stop (r .fuel) s (u .two) p (Refused Grammar) (t ∙ ap (λ (o : OptionScan). goOn o (p .at + length (encodeElement (u .m))) (runAfter (p .scan) (p .run) (u .m)) (countAfter (p .scan) (p .count) (u .m))) w)
+    ap checkReply (r .same
+    ∙ read-stop (r .fuel) s (u .two) p (Refused Grammar) (t ∙ ap (λ (o : OptionScan). goOn o (p .at + length (encodeElement (u .m))) (runAfter (p .scan) (p .run) (u .m)) (countAfter (p .scan) (p .count) (u .m))) w))
     ∙ sym q
 only-deserved s a b (unfinished u q) =
     let f = fed-of (u .two) (u .ms) (u .viable) in
     let r = arrive s (u .two) (u .ms) [] (f .0) (u .is ∙ sym (append-nil (recordIn (u .two) (u .ms)))) (u .ranged) (f .1) in
-    at-the-end s (u .two) (u .ms) (f .0) r
+    ap checkReply (at-the-end s (u .two) (u .ms) (f .0) r
     ∙ finish-open (f .0 .scan) (f .0 .count)
-    (λ (z : Ends (some (f .0 .scan))). u .unread (reads-of (u .two) (u .ms) (u .ranged) (reader .takes-only (u .ms) (f .0) (in-range (u .two) (u .ms) (u .ranged)) (f .1) z)))
+    (λ (z : Ends (some (f .0 .scan))). u .unread (reads-of (u .two) (u .ms) (u .ranged) (reader .takes-only (u .ms) (f .0) (in-range (u .two) (u .ms) (u .ranged)) (f .1) z))))
     ∙ sym q
-only-deserved s a b (whole u q) = accepts s (u .two) (u .ms) (u .is) (u .reads) ∙ sym q
+only-deserved s a b (isWhole u q) = ap checkReply (accepts s (u .two) (u .ms) (u .is) (u .reads)) ∙ sym q
+
+-- What `check` promises.
+pub verdict-of : (s : List ℕ) (a : CheckAnswer) → a ≡ checkOf s → Bytes s → Deserved s a
+verdict-of s a e b = subst (Deserved s) (sym e) (deserved s b)
+
+-- ---- a record of the grammar is bytes, so an answer that it deserves is the check's
+
+four-bytes : (x y : Four) (l : List ℕ) → FourBytes x → FourBytes y → Bytes l → Bytes ((fourOf x ++ fourOf y) ++ l)
+four-bytes (four a b c d) (four e f g h) l x y k = (x .0, (x .1, (x .2, (x .3, (y .0, (y .1, (y .2, (y .3, k))))))))
+
+bytes-join : (a b : List ℕ) → Bytes a → Bytes b → Bytes (a ++ b)
+bytes-join [] b p q = q
+bytes-join (x ∷ a) b p q = (p .0, bytes-join a b (p .1) q)
+
+bit-small : (b : Bool) → flagByte b < 256
+bit-small true = lit< tt
+bit-small false = lit< tt
+
+mark-bytes : (two : Bool) (m : Element) (l : List ℕ) → Ranged two m → Bytes l → Bytes (encodeElement m ++ l)
+mark-bytes two (entry (setup a lo hi)) l r k = (lit< tt, (let z = r .0 .0 in omega arith, four-bytes lo hi l (r .0 .1) (r .0 .2) k))
+mark-bytes two (entry (out a e b last v)) l r k =
+    (lit< tt, (let z = r .0 .0 in omega arith, (let z = r .0 .1 in omega arith, (bit-small b, (bit-small last, (let z = r .0 .2 in omega arith, bytes-join v l (r .0 .3) k))))))
+mark-bytes two (failedEntry n) l r k = let z = r .0 in (lit< tt, (omega arith, (omega arith, (omega arith, (omega arith, k)))))
+
+marks-bytes : (two : Bool) (ms : List Element) → AllRanged two ms → Bytes (encodeElements ms)
+unfolding encodeElements
+marks-bytes two [] h = tt
+marks-bytes two (m ∷ ms) h = mark-bytes two m (encodeElements ms) (h .0) (marks-bytes two ms (h .1))
+
+pub record-bytes : (two : Bool) (ms : List Element) → Reads two ms → Bytes (recordIn two ms)
+unfolding recordIn
+record-bytes true ms r = (lit< tt, (lit< tt, (lit< tt, (lit< tt, (lit< tt, marks-bytes true ms (reads-ranged true ms r))))))
+record-bytes false ms r = (lit< tt, (lit< tt, (lit< tt, (lit< tt, (lit< tt, marks-bytes false ms (reads-ranged false ms r))))))
+
+pub answers-only : (s : List ℕ) (two : Bool) (ms : List Element) → s ≡ recordIn two ms → (r : Reads two ms) (a : Reply ℕ) → Verdict s a → a ≡ result (length (unfailed (r .reading .segments) (r .reading .last)))
+answers-only s two ms q r a v = sym (only-deserved s a (subst Bytes (sym q) (record-bytes two ms r)) v) ∙ ap checkReply (accepts s two ms q r)

@@ -9,7 +9,7 @@ use Rattle.transfers.specs.declared.answers.OptionSetup.{OptionSetup}
 use Rattle.transfers.specs.declared.answers.OptionSetup.the-variants.{Some as someSetup, None as noSetup}
 use Rattle.transfers.specs.declared.answers.OptionOut.{OptionOut}
 use Rattle.transfers.specs.declared.answers.OptionOut.the-variants.{Some as someOut, None as noOut}
-use Rattle.transfers.specs.Memory.{slotAddress}
+use Rattle.record.specs.Chip.{slotPlace}
 use Rattle.record.specs.Grammar.{Four, four, Entry, setup, out}
 
 -- USB 2.0 table 9-2: the SETUP's eight bytes, low byte first.
@@ -26,7 +26,7 @@ setupEntry a s = setup a (lowBytes s) (highBytes s)
 
 -- "Begin and step also answer what they armed, at most one SETUP and two OUT packets": their entries, with the packet memory as that call left it.
 abbrev pub entryArmed : List ℕ → ArmedOut → Entry
-entryArmed m x = out (x .address) (x .endpoint) (x .arm .pid) (x .arm .last) (take (x .arm .length) (drop (slotAddress (x .arm .slot)) m))
+entryArmed m x = out (x .address) (x .endpoint) (x .arm .pid) (x .arm .last) (take (x .arm .length) (drop (slotPlace (x .arm .slot)) m))
 
 -- The SETUP that was armed.
 abbrev pub setupsArmed : OptionSetup → List Entry

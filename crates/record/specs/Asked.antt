@@ -11,7 +11,7 @@ use Rattle.transfers.specs.declared.wire.Direction.the-variants.{In, Out}
 use Rattle.transfers.specs.declared.sample.Sample.{Sample}
 use Rattle.record.specs.Grammar.{Entry, out, Bytes, Item, bulkItem, controlItem}
 use Rattle.record.specs.Armed.{lowBytes, highBytes, setupEntry}
-use Rattle.record.specs.Calls.{Begin, control, bulk, Call, begin, step, cancel, openPipe, closePipe, pollPipe, interrupt, detect}
+use Rattle.record.specs.Calls.{Begin, controlBegin, bulkBegin, Call, begin, step, cancel, openPipe, closePipe, pollPipe, interrupt, detect}
 
 -- ---- the calls that the program's types allow: u8, u16, u32, and lists of bytes and of words
 
@@ -34,8 +34,8 @@ TypedSample y = Word (y .status) × Word (y .intr) × Word (y .buffers)
 
 -- A begin's fields: a control's packet size is a u8, a bulk's a u16.
 abbrev pub TypedBegin : Begin → Type 0
-TypedBegin (control a x p s ph) = (a < 256) × (p < 256) × TypedSetup s
-TypedBegin (bulk d a e p t b) = (a < 256) × (e < 256) × (p < 65536)
+TypedBegin (controlBegin a x p s ph) = (a < 256) × (p < 256) × TypedSetup s
+TypedBegin (bulkBegin d a e p t b) = (a < 256) × (e < 256) × (p < 65536)
 
 -- A call's arguments.
 abbrev pub Typed : Call → Type 0
@@ -62,18 +62,18 @@ pub record Begun : Type 0 where
 
 -- The bytes that a transfer sends: "an Out buffer's first wLength bytes, none for In and None"; a bulk OUT's buffer.
 abbrev pub sentOf : Begin → List ℕ → List ℕ
-sentOf (control a x p s phaseIn) buf = []
-sentOf (control a x p s phaseOut) buf = take (s .wLength) buf
-sentOf (control a x p s phaseNone) buf = []
-sentOf (bulk d a e p t b) buf = buf
+sentOf (controlBegin a x p s phaseIn) buf = []
+sentOf (controlBegin a x p s phaseOut) buf = take (s .wLength) buf
+sentOf (controlBegin a x p s phaseNone) buf = []
+sentOf (bulkBegin d a e p t b) buf = buf
 
 -- "An item's OUT packets are its bytes cut at its begin's packet size and type, a control's as FixedSize; None has none."
 abbrev pub packetsOf : Begin → List ℕ → List (Packet (List ℕ))
-packetsOf (control a x p s phaseIn) l = outCut FixedSize p true l
-packetsOf (control a x p s phaseOut) l = outCut FixedSize p true l
-packetsOf (control a x p s phaseNone) l = []
-packetsOf (bulk In a e p t b) l = []
-packetsOf (bulk Out a e p t b) l = outCut t p b l
+packetsOf (controlBegin a x p s phaseIn) l = outCut FixedSize p true l
+packetsOf (controlBegin a x p s phaseOut) l = outCut FixedSize p true l
+packetsOf (controlBegin a x p s phaseNone) l = []
+packetsOf (bulkBegin In a e p t b) l = []
+packetsOf (bulkBegin Out a e p t b) l = outCut t p b l
 
 -- The entry of a packet, with its address and endpoint.
 abbrev pub outEntry : ℕ → ℕ → Packet (List ℕ) → Entry
@@ -81,8 +81,8 @@ outEntry a e (packet s b last l) = out a e b last l
 
 -- The entries that a transfer is to arm.
 abbrev pub entriesDue : Begin → List (Packet (List ℕ)) → List Entry
-entriesDue (control a x p s ph) ks = setupEntry a s ∷ map (outEntry a 0) ks
-entriesDue (bulk d a e p t b) ks = map (outEntry a e) ks
+entriesDue (controlBegin a x p s ph) ks = setupEntry a s ∷ map (outEntry a 0) ks
+entriesDue (bulkBegin d a e p t b) ks = map (outEntry a e) ks
 
 -- "its packets are document 01's cutting of those bytes"
 abbrev pub armedBy : Begun → List Entry
@@ -90,8 +90,8 @@ armedBy g = entriesDue (g .fields) (packetsOf (g .fields) (sentOf (g .fields) (g
 
 -- "a control's address, SETUP and an Out buffer's first wLength bytes ..; a bulk OUT's address, endpoint, toggle handed in as first PID, and buffer"
 abbrev pub saying : Begin → List ℕ → Item
-saying (control a x p s ph) l = controlItem a (lowBytes s) (highBytes s) l
-saying (bulk d a e p t b) l = bulkItem a e b l
+saying (controlBegin a x p s ph) l = controlItem a (lowBytes s) (highBytes s) l
+saying (bulkBegin d a e p t b) l = bulkItem a e b l
 
 -- The item of a transfer.
 abbrev pub itemOf : Begun → Item
@@ -99,9 +99,9 @@ itemOf g = saying (g .fields) (sentOf (g .fields) (g .buffer))
 
 -- "bulk IN gives no item"
 abbrev pub listing : Begin → Begun → List Begun → List Begun
-listing (control a x p s ph) g gs = g ∷ gs
-listing (bulk In a e p t b) g gs = gs
-listing (bulk Out a e p t b) g gs = g ∷ gs
+listing (controlBegin a x p s ph) g gs = g ∷ gs
+listing (bulkBegin In a e p t b) g gs = gs
+listing (bulkBegin Out a e p t b) g gs = g ∷ gs
 
 -- The transfers that give an item.
 abbrev pub listed : List Begun → List Begun

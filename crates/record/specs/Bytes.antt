@@ -4,7 +4,7 @@ use mathlib.Core.List.{List, [], _∷_, _++_}
 use Prim.Native.Nat.{ℕ, _/_, _%_}
 use lib.ListN.{length}
 use Rattle.record.specs.Grammar.{Four, four, Entry, setup, out}
-use Rattle.record.specs.Segments.{Element, entry, failed}
+use Rattle.record.specs.Segments.{Element, entry, failedEntry}
 
 -- The version that is written.
 abbrev pub version : ℕ
@@ -19,9 +19,9 @@ abbrev pub headBytes : List ℕ
 headBytes = headFor version
 
 -- "PID (0 or 1), last (0 or 1)"
-abbrev pub bit : Bool → ℕ
-bit false = 0
-bit true = 1
+abbrev pub flagByte : Bool → ℕ
+flagByte false = 0
+flagByte true = 1
 
 -- Four bytes in their order.
 abbrev pub fourOf : Four → List ℕ
@@ -30,7 +30,7 @@ fourOf (four a b c d) = a ∷ b ∷ c ∷ d ∷ []
 -- "SETUP: 0x53, address, 8 bytes. OUT: 0x4F, address, endpoint, PID, last, length, bytes."
 abbrev pub encode : Entry → List ℕ
 encode (setup a lo hi) = 0x53 ∷ a ∷ (fourOf lo ++ fourOf hi)
-encode (out a e pid last l) = 0x4F ∷ a ∷ e ∷ bit pid ∷ bit last ∷ length l ∷ l
+encode (out a e pid last l) = 0x4F ∷ a ∷ e ∷ flagByte pid ∷ flagByte last ∷ length l ∷ l
 
 -- Entries one after another.
 unfoldable pub encodeAll : List Entry → List ℕ
@@ -44,7 +44,7 @@ failedBytes n = 0x58 ∷ n % 256 ∷ n / 256 % 256 ∷ n / 65536 % 256 ∷ n / 1
 -- An entry of version 2.
 abbrev pub encodeElement : Element → List ℕ
 encodeElement (entry e) = encode e
-encodeElement (failed n) = failedBytes n
+encodeElement (failedEntry n) = failedBytes n
 
 -- Entries one after another.
 unfoldable pub encodeElements : List Element → List ℕ

@@ -11,10 +11,8 @@ use Rattle.transfers.specs.declared.wire.Direction.{Direction}
 use Rattle.transfers.specs.declared.wire.Direction.the-variants.{In, Out}
 use Rattle.transfers.specs.declared.sample.Sample.{Sample}
 use Rattle.transfers.specs.declared.answers.BeginAnswer.{BeginAnswer}
-use Rattle.transfers.specs.declared.answers.BeginAnswer.the-variants.{Begun as accepted, Refused as refusedBegin}
 use Rattle.transfers.specs.declared.answers.StepAnswer.{StepAnswer}
 use Rattle.transfers.specs.declared.answers.CancelAnswer.{CancelAnswer}
-use Rattle.transfers.specs.declared.answers.CancelAnswer.the-variants.{Cancelled, Refused as refusedCancel}
 use Rattle.transfers.specs.declared.answers.Armed.{Armed}
 use Rattle.transfers.specs.declared.answers.OptionEntries.{OptionEntries}
 use Rattle.transfers.specs.declared.answers.OptionEntries.the-variants.{None as noCount}
@@ -37,8 +35,8 @@ use Rattle.transfers.specs.Driver.{begun as begunOf, stepped as steppedOf, drop
 
 -- What a begin asks for: a control (address, extras, packet size, SETUP, phase) or a bulk transfer (direction, address, endpoint, packet size, type, toggle).
 pub data Begin : Type 0 where
-  control : ℕ → TransferExtras → ℕ → SetupPacket → DataPhase → Begin
-  bulk : Direction → ℕ → ℕ → ℕ → TransferType → Bool → Begin
+  controlBegin : ℕ → TransferExtras → ℕ → SetupPacket → DataPhase → Begin
+  bulkBegin : Direction → ℕ → ℕ → ℕ → TransferType → Bool → Begin
 
 -- A begin and a step are lent a buffer, packet memory and a log; a poll packet memory and a log; open (address, extras, endpoint, packet size, interval),
 -- the interrupt routine (INTS, BUFF_STATUS) and detection (SIE_STATUS) a log. A step is `step_in` (true) or `step_out` (false).
@@ -74,9 +72,9 @@ pub record Effect (c : Call) : Type 0 where
 
 -- A begin of the three: `begin_control`, `begin_bulk_in`, `begin_bulk_out`.
 abbrev pub beginning : Transfer → Begin → List ℕ → List ℕ → List ℕ → Beginning
-beginning t (control a x p s ph) buf m log = beginControlOf t a x p s ph buf m log
-beginning t (bulk In a e p k b) buf m log = beginBulkInOf t a e p k b buf m log
-beginning t (bulk Out a e p k b) buf m log = beginBulkOutOf t a e p k b buf m log
+beginning t (controlBegin a x p s ph) buf m log = beginControlOf t a x p s ph buf m log
+beginning t (bulkBegin In a e p k b) buf m log = beginBulkInOf t a e p k b buf m log
+beginning t (bulkBegin Out a e p k b) buf m log = beginBulkOutOf t a e p k b buf m log
 
 -- The driver's begin, by what it hands back.
 abbrev pub begins : Driver → (x : Begin) (buf m log : List ℕ) → Beginning → Effect (begin x buf m log)
@@ -96,23 +94,3 @@ call d (closePipe n) = let o = closing d n in record { next = o .next; answer = 
 call d (pollPipe n y m log) = let o = polling d n y m log in record { next = o .next; answer = o .answer; writes = o .writes; memory = m; armed = nothingArmed; failed = noCount }
 call d (interrupt ints status log) = let o = waking ints status log in record { next = d; answer = o .answer; writes = o .writes; memory = []; armed = nothingArmed; failed = noCount }
 call d (detect sie log) = let o = detecting d sie log in record { next = o .next; answer = o .answer; writes = o .writes; memory = []; armed = nothingArmed; failed = noCount }
-
--- What a call and its answer tell of transfers: one began (its fields and buffer), one was stepped (the answer, sample and buffer), one was cancelled, or nothing.
-pub data Note : Type 0 where
-  began : Begin → List ℕ → Note
-  stepped : StepAnswer → Sample → List ℕ → Note
-  cancelled : Note
-  nothing : Note
-
--- A refused begin, a refused cancel and the calls on pipes tell nothing.
-abbrev pub note : (c : Call) → Answer c → Note
-note (begin x buf m log) accepted = began x buf
-note (begin x buf m log) (refusedBegin why) = nothing
-note (step b y buf m log) a = stepped a y buf
-note cancel Cancelled = cancelled
-note cancel (refusedCancel why) = nothing
-note (openPipe a x e p i log) b = nothing
-note (closePipe n) a = nothing
-note (pollPipe n y m log) a = nothing
-note (interrupt ints status log) a = nothing
-note (detect sie log) a = nothing

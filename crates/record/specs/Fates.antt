@@ -1,23 +1,20 @@
 -- The transfers begun, and what became of each.
 use mathlib.Core.Path.{_≡_}
-use mathlib.Core.Bool.{cond}
 use mathlib.Core.List.{List, [], _∷_, _++_, map}
 use lib.ListN.{length}
-use Rattle.transfers.specs.declared.answers.StepAnswer.{StepAnswer}
-use Rattle.transfers.specs.declared.answers.StepAnswer.the-variants.{Waiting, Done, Refused}
 use Rattle.transfers.specs.declared.driver.Driver.{Driver}
-use Rattle.transfers.specs.Entries.{ends}
 use Rattle.record.specs.Grammar.{Entry}
-use Rattle.record.specs.Segments.{Element, entry, failed, Segment}
-use Rattle.record.specs.Calls.{Call, call, Note, began, stepped, cancelled, nothing, note}
+use Rattle.record.specs.Segments.{Element, entry, failedEntry, Segment}
+use Rattle.record.specs.Calls.{Call, call}
 use Rattle.record.specs.Asked.{Begun, armedBy}
-use Rattle.record.specs.Told.{Live, none, live, nextLive}
+use Rattle.record.specs.Told.{Live, noTransfer, live, Note, began, stepped, finished, broke, nothing, note, Told, hears}
 
 -- "The transfers begun get an item from each begin that the table doesn't refuse".
 abbrev pub begunBy : Note → List Begun
 begunBy (began x buf) = record { fields = x; buffer = buf } ∷ []
-begunBy (stepped a y now) = []
-begunBy cancelled = []
+begunBy (stepped v y now) = []
+begunBy (finished y now) = []
+begunBy broke = []
 begunBy nothing = []
 
 -- The transfers begun, in order.
@@ -32,26 +29,21 @@ pub data Fate : Type 0 where
 
 -- The transfer under way.
 abbrev pub underWay : Live → List Begun
-underWay none = []
+underWay noTransfer = []
 underWay (live x buf) = record { fields = x; buffer = buf } ∷ []
 
--- What a step's answer makes of it.
-abbrev pub stepFate : StepAnswer → List Begun → List Fate
-stepFate (Waiting again) gs = []
-stepFate (Done k) gs = map done gs
-stepFate (Refused why) gs = cond (ends why) (map broken gs) []
-
--- The same of a call.
+-- What a call makes of it.
 abbrev pub fate : Note → List Begun → List Fate
 fate (began x buf) gs = []
-fate (stepped a y now) gs = stepFate a gs
-fate cancelled gs = map broken gs
+fate (stepped v y now) gs = []
+fate (finished y now) gs = map done gs
+fate broke gs = map broken gs
 fate nothing gs = []
 
 -- The fates, in order.
-unfoldable pub fatesFrom : Live → Driver → List Call → List Fate
-fatesFrom l d [] = []
-fatesFrom l d (c ∷ cs) = let o = call d c in let k = note c (o .answer) in fate k (underWay l) ++ fatesFrom (nextLive k l) (o .next) cs
+unfoldable pub fatesFrom : Told → Driver → List Call → List Fate
+fatesFrom t d [] = []
+fatesFrom t d (c ∷ cs) = let o = call d c in fate (note c (o .answer)) (underWay (t .live)) ++ fatesFrom (hears t c o) (o .next) cs
 
 -- Whose they are.
 abbrev pub allOf : List Fate → List Begun
@@ -86,4 +78,4 @@ FirstsOf (s ∷ ss) (g ∷ gs) = FirstOf (s .first) g × FirstsOf ss gs
 abbrev pub Made : List Fate → List Element → Type 0
 Made [] r = r ≡ []
 Made (done g ∷ fs) r = (r′ : List Element) × (r ≡ map entry (armedBy g) ++ r′) × Made fs r′
-Made (broken g ∷ fs) r = (es : List Entry) × (r′ : List Element) × FirstOf es g × (r ≡ map entry es ++ (failed (length es) ∷ r′)) × Made fs r′
+Made (broken g ∷ fs) r = (es : List Entry) × (r′ : List Element) × FirstOf es g × (r ≡ map entry es ++ (failedEntry (length es) ∷ r′)) × Made fs r′

@@ -16,8 +16,8 @@ pub data Entry : Type 0 where
   out : ℕ → ℕ → Bool → Bool → List ℕ → Entry
 
 -- wLength: the last two of the eight bytes, low byte first (USB 2.0 table 9-2).
-abbrev pub lengthIn : Four → ℕ
-lengthIn (four a b c d) = c + d * 256
+abbrev pub wLengthIn : Four → ℕ
+wLengthIn (four a b c d) = c + d * 256
 
 -- All are bytes.
 abbrev pub Bytes : List ℕ → Type 0
@@ -34,9 +34,9 @@ group a e b [] l = out a e b true l ∷ []
 group a e b (x ∷ xs) l = out a e b false x ∷ group a e (not b) xs l
 
 -- The bytes of a group.
-abbrev pub bytes : List (List ℕ) → List ℕ → List ℕ
-bytes [] l = l
-bytes (x ∷ xs) l = x ++ bytes xs l
+abbrev pub groupBytes : List (List ℕ) → List ℕ → List ℕ
+groupBytes [] l = l
+groupBytes (x ∷ xs) l = x ++ groupBytes xs l
 
 -- All of one length.
 abbrev pub AllOf : ℕ → List (List ℕ) → Type 0
@@ -50,38 +50,38 @@ pub record Sizes (xs : List (List ℕ)) (l : List ℕ) : Type 0 where
   pub high : p ≤ 64
   pub full : AllOf p xs
   pub short : length l ≤ p
-  pub total : length (bytes xs l) ≤ 65535
-  pub are : Bytes (bytes xs l)
+  pub total : length (groupBytes xs l) ≤ 65535
+  pub are : Bytes (groupBytes xs l)
 
 -- What follows a SETUP: nothing, or a group.
 pub data Sent : Type 0 where
-  none : Sent
-  some : List (List ℕ) → List ℕ → Sent
+  noGroup : Sent
+  oneGroup : List (List ℕ) → List ℕ → Sent
 
 -- A part of a record: "bulk groups (endpoint 1 to 15) and controls".
 pub data Part : Type 0 where
-  bulk : ℕ → ℕ → Bool → List (List ℕ) → List ℕ → Part
-  control : ℕ → Four → Four → Sent → Part
+  bulkPart : ℕ → ℕ → Bool → List (List ℕ) → List ℕ → Part
+  controlPart : ℕ → Four → Four → Sent → Part
 
 -- "starting with DATA1 ..; all on endpoint 0 and the SETUP's address"
 abbrev pub sentEntries : ℕ → Sent → List Entry
-sentEntries a none = []
-sentEntries a (some xs l) = group a 0 true xs l
+sentEntries a noGroup = []
+sentEntries a (oneGroup xs l) = group a 0 true xs l
 
 -- The entries of a part.
-abbrev pub entries : Part → List Entry
-entries (bulk a e b xs l) = group a e b xs l
-entries (control a lo hi s) = setup a lo hi ∷ sentEntries a s
+abbrev pub partEntries : Part → List Entry
+partEntries (bulkPart a e b xs l) = group a e b xs l
+partEntries (controlPart a lo hi s) = setup a lo hi ∷ sentEntries a s
 
 -- "then nothing, or one empty marked DATA1 packet, or a group .. of exactly wLength bytes, wLength at least 1, whose marked packet is not empty"
 abbrev pub SentFits : Four → Sent → Type 0
-SentFits hi none = Unit {0}
-SentFits hi (some xs l) = ((xs ≡ []) × (l ≡ [])) ⊎ (Sizes xs l × (length (bytes xs l) ≡ lengthIn hi) × (1 ≤ length l))
+SentFits hi noGroup = Unit {0}
+SentFits hi (oneGroup xs l) = ((xs ≡ []) × (l ≡ [])) ⊎ (Sizes xs l × (length (groupBytes xs l) ≡ wLengthIn hi) × (1 ≤ length l))
 
 -- The grammar, part by part, with the fields' ranges.
 abbrev pub Fits : Part → Type 0
-Fits (bulk a e b xs l) = (a ≤ 127) × (1 ≤ e) × (e ≤ 15) × Sizes xs l
-Fits (control a lo hi s) = (a ≤ 127) × FourBytes lo × FourBytes hi × SentFits hi s
+Fits (bulkPart a e b xs l) = (a ≤ 127) × (1 ≤ e) × (e ≤ 15) × Sizes xs l
+Fits (controlPart a lo hi s) = (a ≤ 127) × FourBytes lo × FourBytes hi × SentFits hi s
 
 -- "A record is a list, perhaps empty"
 abbrev pub AllFit : List Part → Type 0
@@ -89,15 +89,15 @@ AllFit [] = Unit {0}
 AllFit (q ∷ qs) = Fits q × AllFit qs
 
 -- The record of a list of parts.
-abbrev pub written : List Part → List Entry
-written [] = []
-written (q ∷ qs) = entries q ++ written qs
+abbrev pub partsEntries : List Part → List Entry
+partsEntries [] = []
+partsEntries (q ∷ qs) = partEntries q ++ partsEntries qs
 
 -- "A reading cuts a record into bulk groups and controls": parts of the grammar whose record it is. A record lies in the grammar if it has a reading.
 pub record PlainReading (r : List Entry) : Type 0 where
   pub parts : List Part
   pub fit : AllFit parts
-  pub is : written parts ≡ r
+  pub is : partsEntries parts ≡ r
 
 -- "each an item, in order: a control's address, SETUP and OUT bytes; a bulk group's address, endpoint, first PID and bytes"
 pub data Item : Type 0 where
@@ -106,10 +106,10 @@ pub data Item : Type 0 where
 
 -- A control's OUT bytes.
 abbrev pub sentBytes : Sent → List ℕ
-sentBytes none = []
-sentBytes (some xs l) = bytes xs l
+sentBytes noGroup = []
+sentBytes (oneGroup xs l) = groupBytes xs l
 
 -- The item of a part.
 abbrev pub item : Part → Item
-item (bulk a e b xs l) = bulkItem a e b (bytes xs l)
-item (control a lo hi s) = controlItem a lo hi (sentBytes s)
+item (bulkPart a e b xs l) = bulkItem a e b (groupBytes xs l)
+item (controlPart a lo hi s) = controlItem a lo hi (sentBytes s)

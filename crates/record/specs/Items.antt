@@ -5,7 +5,7 @@ use mathlib.Core.List.{List, [], _∷_, _++_}
 use Prim.Native.Nat.{ℕ, zero, suc, _+_}
 use lib.ListN.{length, take, drop}
 use lib.Dec.{eqb}
-use Rattle.record.specs.Grammar.{Part, bulk, control, none, some, entries, written, bytes, sentBytes}
+use Rattle.record.specs.Grammar.{Part, bulkPart, controlPart, noGroup, oneGroup, partEntries, partsEntries, groupBytes, sentBytes}
 use Rattle.record.specs.Segments.{Segment, unfailed}
 use Rattle.record.specs.Bytes.{fourOf, encodeAll}
 use Rattle.record.specs.Reader.{versionAt, look}
@@ -68,17 +68,17 @@ unfoldable pub failedAt : List ℕ → ℕ → Bool
 failedAt s at = failedLook (look (drop at s))
 
 -- "lists .. only transfers that didn't fail": of one that failed, the position after its count.
-abbrev pub unless : Bool → ℕ → ItemAnswer → ItemAnswer
-unless true at y = failedItem (record { at = at + 5 })
-unless false at y = y
+abbrev pub unlessFailed : Bool → ℕ → ItemAnswer → ItemAnswer
+unlessFailed true at y = failedItem (record { at = at + 5 })
+unlessFailed false at y = y
 
 -- An item, by the entry that it begins with; a count of none stands for a transfer that armed nothing.
 abbrev pub itemLook : Look → List ℕ → ℕ → ItemAnswer
 itemLook (Setup a w) s at =
-    unless (failedAt s (sentAt s (at + 10) .at)) (sentAt s (at + 10) .at)
+    unlessFailed (failedAt s (sentAt s (at + 10) .at)) (sentAt s (at + 10) .at)
     (Control (record { address = a; setup = at + 2; count = sentAt s (at + 10) .count; next = record { at = sentAt s (at + 10) .at } }))
 itemLook (Out x) s at =
-    unless (failedAt s (groupAt s at .at)) (groupAt s at .at)
+    unlessFailed (failedAt s (groupAt s at .at)) (groupAt s at .at)
     (Bulk (record { address = x .address; endpoint = x .endpoint; pid = x .pid; count = groupAt s at .count; next = record { at = groupAt s at .at } }))
 itemLook (Failed m) s at = failedItem (record { at = at + 5 })
 itemLook Bad s at = noItem
@@ -90,8 +90,8 @@ itemAt s at = itemLook (look (drop at s)) s at
 
 -- What stands for a part of a record whose entries begin at a position: its item, by the place of the SETUP bytes and the count of OUT bytes, and the position after it.
 abbrev pub itemFor : Part → ℕ → ItemAnswer
-itemFor (bulk a e b xs l) at = Bulk (record { address = a; endpoint = e; pid = b; count = length (bytes xs l); next = record { at = at + length (encodeAll (entries (bulk a e b xs l))) } })
-itemFor (control a lo hi s) at = Control (record { address = a; setup = at + 2; count = length (sentBytes s); next = record { at = at + length (encodeAll (entries (control a lo hi s))) } })
+itemFor (bulkPart a e b xs l) at = Bulk (record { address = a; endpoint = e; pid = b; count = length (groupBytes xs l); next = record { at = at + length (encodeAll (partEntries (bulkPart a e b xs l))) } })
+itemFor (controlPart a lo hi s) at = Control (record { address = a; setup = at + 2; count = length (sentBytes s); next = record { at = at + length (encodeAll (partEntries (controlPart a lo hi s))) } })
 
 -- The cursor after an item.
 abbrev pub nextOf : ItemAnswer → ℕ → ℕ
@@ -108,13 +108,13 @@ itemsFrom (suc k) s at = itemAt s at ∷ itemsFrom k s (nextOf (itemAt s at) at)
 -- What stands for the parts of a record whose entries begin at a position.
 abbrev pub itemsFor : List Part → ℕ → List ItemAnswer
 itemsFor [] at = []
-itemsFor (q ∷ qs) at = itemFor q at ∷ itemsFor qs (at + length (encodeAll (entries q)))
+itemsFor (q ∷ qs) at = itemFor q at ∷ itemsFor qs (at + length (encodeAll (partEntries q)))
 
 -- What stands for a reading: the whole transfers before a count, one that failed, and so on; then the end.
 abbrev pub answersFor : List Segment → List Part → ℕ → List ItemAnswer
 answersFor [] ps at = itemsFor ps at ++ (noItem ∷ [])
 answersFor (g ∷ gs) ps at =
-    let end = at + length (encodeAll (written (g .whole) ++ g .first)) + 5 in
+    let end = at + length (encodeAll (partsEntries (g .whole) ++ g .first)) + 5 in
     itemsFor (g .whole) at ++ (failedItem (record { at = end }) ∷ answersFor gs ps end)
 
 -- How many times the cursor is asked: once for each whole transfer, once for each count, and once for the end.
@@ -129,19 +129,19 @@ PacketsAt s at (l ∷ ls) = (take (suc (length l)) (drop (at + 5) s) ≡ length 
 
 -- What stands at an item's places: the SETUP's eight bytes where the answer says (at + 2), its OUT packets from at + 10 on; a bulk group's packets from at on.
 abbrev pub HeldAt : List ℕ → Part → ℕ → Type 0
-HeldAt s (bulk a e b xs l) at = PacketsAt s at (xs ++ (l ∷ []))
-HeldAt s (control a lo hi none) at = take 8 (drop (at + 2) s) ≡ fourOf lo ++ fourOf hi
-HeldAt s (control a lo hi (some xs l)) at = (take 8 (drop (at + 2) s) ≡ fourOf lo ++ fourOf hi) × PacketsAt s (at + 10) (xs ++ (l ∷ []))
+HeldAt s (bulkPart a e b xs l) at = PacketsAt s at (xs ++ (l ∷ []))
+HeldAt s (controlPart a lo hi noGroup) at = take 8 (drop (at + 2) s) ≡ fourOf lo ++ fourOf hi
+HeldAt s (controlPart a lo hi (oneGroup xs l)) at = (take 8 (drop (at + 2) s) ≡ fourOf lo ++ fourOf hi) × PacketsAt s (at + 10) (xs ++ (l ∷ []))
 
 -- Of the parts of a record whose entries begin at a position.
 abbrev pub HeldAll : List ℕ → List Part → ℕ → Type 0
 HeldAll s [] at = Unit {0}
-HeldAll s (q ∷ qs) at = HeldAt s q at × HeldAll s qs (at + length (encodeAll (entries q)))
+HeldAll s (q ∷ qs) at = HeldAt s q at × HeldAll s qs (at + length (encodeAll (partEntries q)))
 
 -- Of a reading.
 abbrev pub Held : List ℕ → List Segment → List Part → ℕ → Type 0
 Held s [] ps at = HeldAll s ps at
-Held s (g ∷ gs) ps at = HeldAll s (g .whole) at × Held s gs ps (at + length (encodeAll (written (g .whole) ++ g .first)) + 5)
+Held s (g ∷ gs) ps at = HeldAll s (g .whole) at × Held s gs ps (at + length (encodeAll (partsEntries (g .whole) ++ g .first)) + 5)
 
 -- A record that the check accepts has a version and a reading; the cursor hands out its items from the first on, and then the end; and their bytes stand at
 -- their places.

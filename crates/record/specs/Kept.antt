@@ -9,10 +9,9 @@ use Rattle.transfers.specs.declared.answers.OptionEntries.the-variants.{None as
 use Rattle.transfers.specs.declared.driver.Driver.{Driver}
 use Rattle.transfers.specs.Answers.{nothingArmed}
 use Rattle.transfers.specs.Driver.{fresh}
+use Rattle.transfers.specs.Reply.{Reply, result, number}
 use Rattle.record.specs.Calls.{Call, begin, step, cancel, openPipe, closePipe, pollPipe, interrupt, detect, Effect, call}
 use Rattle.record.specs.Writer.{appendOf}
-use Rattle.record.specs.declared.writer.AppendAnswer.{AppendAnswer}
-use Rattle.record.specs.declared.writer.AppendAnswer.the-variants.{Used, Refused}
 
 -- The record lent and how many of its bytes are used, or the writer was refused somewhere.
 pub data Kept : Type 0 where
@@ -20,9 +19,9 @@ pub data Kept : Type 0 where
   refused : Kept
 
 -- The used length that the writer answers goes into its next call.
-abbrev pub keptBy : AppendAnswer → List ℕ → Kept
-keptBy (Used n) l = kept l n
-keptBy (Refused why) l = refused
+abbrev pub keptBy : Reply ℕ → List ℕ → Kept
+keptBy (result n) l = kept l n
+keptBy (number why) l = refused
 
 -- One call of the writer, by the definition that `append` is proved equal to.
 abbrev pub appends : Armed → OptionEntries → List ℕ → Kept → Kept

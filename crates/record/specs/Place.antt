@@ -3,7 +3,7 @@ use mathlib.Core.Bool.{Bool, true, false, cond, _&&_, _||_}
 use mathlib.Core.List.{List, [], _∷_}
 use Prim.Native.Nat.{ℕ, zero, suc, _+_, _-_, _<_}
 use lib.Dec.{eqb}
-use Rattle.record.specs.Segments.{Element, entry, failed}
+use Rattle.record.specs.Segments.{Element, entry, failedEntry}
 use Rattle.record.specs.Scan.{guard, feed, starts, InRange}
 use Rattle.record.specs.declared.scan.Scan.{Scan}
 use Rattle.record.specs.declared.scan.Scan.the-variants.{Between as between, AfterSetup as afterSetup, InBulk as inBulk, InControl as inControl}
@@ -28,7 +28,7 @@ feedFailed s run m = guard (countRight s run m) between
 -- One entry.
 abbrev pub feedElement : Scan → ℕ → Element → OptionScan
 feedElement s run (entry e) = feed s e
-feedElement s run (failed m) = feedFailed s run m
+feedElement s run (failedEntry m) = feedFailed s run m
 
 -- The entries of the last item: an entry begins an item (1) or goes on (0).
 abbrev pub runOn : ℕ → ℕ → ℕ
@@ -38,7 +38,7 @@ runOn (suc k) run = 1
 -- After a count, none.
 abbrev pub runAfter : Scan → ℕ → Element → ℕ
 runAfter s run (entry e) = runOn (starts s e) run
-runAfter s run (failed m) = 0
+runAfter s run (failedEntry m) = 0
 
 -- A count above 0 takes the last item away.
 abbrev pub lost : ℕ → ℕ → ℕ
@@ -47,7 +47,7 @@ lost m k = cond (eqb m 0) k (k - 1)
 -- The items that didn't fail.
 abbrev pub countAfter : Scan → ℕ → Element → ℕ
 countAfter s k (entry e) = k + starts s e
-countAfter s k (failed m) = lost m k
+countAfter s k (failedEntry m) = lost m k
 
 -- How far the automaton has come.
 pub record Place : Type 0 where
@@ -82,7 +82,7 @@ start = record { scan = between; run = 0; count = 0 }
 -- An entry whose fields lie in their ranges; a count is 32 bits.
 abbrev pub ElementInRange : Element → Type 0
 ElementInRange (entry e) = InRange e
-ElementInRange (failed m) = m < 0x1_0000_0000
+ElementInRange (failedEntry m) = m < 0x1_0000_0000
 
 -- Those of a list.
 abbrev pub ElementsInRange : List Element → Type 0

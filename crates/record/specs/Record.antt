@@ -1,44 +1,35 @@
 -- The wire record of a list of calls, in version 2: from the logs performed in order, packet memory and the answers, never from the driver's state.
-use mathlib.Core.Bool.{Bool, true, false}
 use mathlib.Core.List.{List, [], _∷_, _++_, map}
-use Prim.Native.Nat.{ℕ, _+_, _≤_}
-use lib.ListN.{length}
+use Prim.Native.Nat.{ℕ, _≤_}
 use Rattle.transfers.specs.declared.answers.OptionEntries.{OptionEntries}
 use Rattle.transfers.specs.declared.answers.OptionEntries.the-variants.{Some as someCount, None as noCount}
 use Rattle.transfers.specs.declared.driver.Driver.{Driver}
-use Rattle.record.specs.Segments.{Element, entry, failed}
-use Rattle.record.specs.Wire.{File, performs, wire}
+use Rattle.record.specs.Segments.{Element, entry, failedEntry}
+use Rattle.record.specs.Wire.{wire}
 use Rattle.record.specs.Armed.{entriesArmed}
-use Rattle.record.specs.Calls.{Call, call, Note, began, stepped, cancelled, nothing, note}
-use Rattle.record.specs.Told.{fails}
-
--- "how many entries .. that transfer armed": those started since its begin, where n stood before a call and the call starts k.
-abbrev pub since : Note → ℕ → ℕ → ℕ
-since (began x buf) n k = k
-since (stepped a y now) n k = n + k
-since cancelled n k = n + k
-since nothing n k = n + k
+use Rattle.record.specs.Calls.{Call, call}
+use Rattle.record.specs.Told.{note, Told, hears}
+use Rattle.record.specs.Fates.{Fate, done, broken, underWay, fate}
 
 -- "written when a started transfer ends by 1 to 7 or 9 or is cancelled"
-abbrev pub failure : Bool → ℕ → List Element
-failure false n = []
-failure true n = failed n ∷ []
+abbrev pub failure : List Fate → ℕ → List Element
+failure [] n = []
+failure (done g ∷ fs) n = []
+failure (broken g ∷ fs) n = failedEntry n ∷ []
 
--- "the SETUPs and OUT packets in order of arming", each call "getting the state the last one returned", and a count where a call ends a transfer without one.
--- n is the entries since the last begin.
-unfoldable pub recordFrom : File → Driver → ℕ → List Call → List Element
-recordFrom f d n [] = []
-recordFrom f d n (c ∷ cs) =
+-- "the SETUPs and OUT packets in order of arming", each call "getting the state the last one returned", and a count where a call ends the transfer under way
+-- without one.
+unfoldable pub recordFrom : Told → Driver → List Call → List Element
+recordFrom t d [] = []
+recordFrom t d (c ∷ cs) =
     let o = call d c in
-    let k = note c (o .answer) in
-    let now = wire f (o .writes) (o .memory) in
-    let m = since k n (length now) in
-    map entry now ++ (failure (fails k) m ++ recordFrom (performs f (o .writes)) (o .next) m cs)
+    let u = hears t c o in
+    map entry (wire (t .file) (o .writes) (o .memory)) ++ (failure (fate (note c (o .answer)) (underWay (t .live))) (u .armings) ++ recordFrom u (o .next) cs)
 
 -- "that step or cancel answers the count"
 abbrev pub counted : OptionEntries → List Element
 counted noCount = []
-counted (someCount n) = failed n ∷ []
+counted (someCount n) = failedEntry n ∷ []
 
 -- The record as the answers of a list of calls tell it.
 unfoldable pub answeredFrom : Driver → List Call → List Element
@@ -49,4 +40,4 @@ answeredFrom d (c ∷ cs) = let o = call d c in map entry (entriesArmed (o .memo
 abbrev pub CountsTo : ℕ → List Element → Type 0
 CountsTo k [] = Unit {0}
 CountsTo k (entry e ∷ ms) = CountsTo k ms
-CountsTo k (failed n ∷ ms) = (n ≤ k) × CountsTo k ms
+CountsTo k (failedEntry n ∷ ms) = (n ≤ k) × CountsTo k ms

@@ -4,7 +4,7 @@ use mathlib.Core.List.{List, [], _∷_}
 use Prim.Native.Nat.{ℕ, _+_, _≤_}
 use lib.ListN.{length}
 use lib.Dec.{eqb, leb, ltb}
-use Rattle.record.specs.Grammar.{Entry, setup, out, lengthIn, Bytes, FourBytes}
+use Rattle.record.specs.Grammar.{Entry, setup, out, wLengthIn, Bytes, FourBytes}
 use Rattle.record.specs.declared.scan.Scan.{Scan}
 use Rattle.record.specs.declared.scan.Scan.the-variants.{Between as between, AfterSetup as afterSetup, InBulk as inBulk, InControl as inControl}
 use Rattle.record.specs.declared.scan.OptionScan.{OptionScan}
@@ -51,7 +51,7 @@ feedOut (inControl a′ w q p t) a e b last n = controlNext a′ w q p t a e b l
 
 -- One entry.
 abbrev pub feed : Scan → Entry → OptionScan
-feed s (setup a lo hi) = feedSetup s a (lengthIn hi)
+feed s (setup a lo hi) = feedSetup s a (wLengthIn hi)
 feed s (out a e b last l) = feedOut s a e b last (length l)
 
 -- Entry after entry; what is refused stays refused.

@@ -1,101 +1,107 @@
--- What the calls, their samples and their answers so far tell: the transfer under way, the stages reported complete, the marked packet.
-use mathlib.Core.Bool.{Bool, true, false, cond}
+-- What the calls, their answers, samples and logs tell, call by call: one record, and one function that steps it.
+use mathlib.Core.Bool.{Bool, true, false, not, cond, _&&_, _||_}
 use mathlib.Core.List.{List, [], _∷_}
-use Prim.Native.Nat.{ℕ, suc}
+use Prim.Native.Nat.{ℕ, suc, _+_}
+use lib.ListN.{length}
+use lib.Dec.{eqb, leb}
+use lib.Bits.{bitAnd}
+use Rattle.transfers.specs.declared.refusal.Refusal.{Refusal}
+use Rattle.transfers.specs.declared.answers.BeginAnswer.the-variants.{Begun as accepted, Refused as refusedBegin}
+use Rattle.transfers.specs.declared.answers.CancelAnswer.the-variants.{Cancelled, Refused as refusedCancel}
 use Rattle.transfers.specs.declared.answers.StepAnswer.{StepAnswer}
 use Rattle.transfers.specs.declared.answers.StepAnswer.the-variants.{Waiting, Done, Refused}
 use Rattle.transfers.specs.declared.sample.Sample.{Sample}
-use Rattle.transfers.specs.declared.sample.Poll.{Poll}
-use Rattle.transfers.specs.declared.sample.Poll.the-variants.{Pending, Ready}
-use Rattle.transfers.specs.declared.sample.Found.the-variants.{Complete, Failed, Neither}
-use Rattle.transfers.specs.Sample.{classify, available}
-use Rattle.transfers.specs.Entries.{ends}
-use Rattle.record.specs.Wire.{Event, setupAt, outAt}
-use Rattle.record.specs.Calls.{Begin, Note, began, stepped, cancelled, nothing}
+use Rattle.transfers.specs.Refusal.{numberOf}
+use Rattle.record.specs.Chip.{isSet, inHalf}
+use Rattle.record.specs.Wire.{File, performs, Event, setupAt, outAt, events, wire}
+use Rattle.record.specs.Calls.{Begin, Call, begin, step, cancel, openPipe, closePipe, pollPipe, interrupt, detect, Answer, Effect}
 
 -- The transfer under way: its begin's fields and buffer.
 pub data Live : Type 0 where
-  none : Live
+  noTransfer : Live
   live : Begin → List ℕ → Live
 
 -- The marked packet of the stage under way: not armed, armed in a slot, or taken.
 pub data Watch : Type 0 where
-  unarmed : Watch
-  armed : Bool → Watch
+  notArmed : Watch
+  inSlot : Bool → Watch
   taken : Watch
 
 -- "A packet counts as taken once the sample of a step after its arming, the completing step's too, shows its slot not available."
 abbrev pub seen : Watch → Sample → Watch
-seen unarmed y = unarmed
-seen (armed s) y = cond (available (y .buffers) s) (armed s) taken
+seen notArmed y = notArmed
+seen (inSlot s) y = cond (isSet (inHalf s 10) (y .buffers)) (inSlot s) taken
 seen taken y = taken
 
 -- The packets that a call arms: a marked one is watched from then on.
 abbrev pub marks : Watch → List Event → Watch
 marks w [] = w
 marks w (setupAt lo hi ∷ es) = marks w es
-marks w (outAt s b true n ∷ es) = marks (armed s) es
+marks w (outAt s b true n ∷ es) = marks (inSlot s) es
 marks w (outAt s b false n ∷ es) = marks w es
 
--- "the step that finds TRANS_COMPLETE"
-abbrev pub isComplete : Poll → Bool
-isComplete Pending = false
-isComplete (Ready Complete) = true
-isComplete (Ready (Failed e)) = false
-isComplete (Ready Neither) = false
-
--- A sample shows it: ready, with TRANS_COMPLETE set.
+-- "the step that finds TRANS_COMPLETE": "INTR and 0x458 all zero: waiting. Else .. TRANS_COMPLETE wins", which is bit 18 of SIE_STATUS.
 abbrev pub finds : Sample → Bool
-finds y = isComplete (classify (y .status) (y .intr))
+finds y = not (eqb (bitAnd (y .intr) 0x458) 0) && isSet 18 (y .status)
 
--- A step ends the transfer with a count, or by a refusal that ends it.
-abbrev pub stepLive : StepAnswer → Live → Live
-stepLive (Waiting again) l = l
-stepLive (Done k) l = none
-stepLive (Refused why) l = cond (ends why) none l
+-- "1 to 7 and 9 end the transfer": of a step's refusals these; 15 and 16 leave it.
+abbrev pub ends : Refusal → Bool
+ends why = leb (numberOf why) 7 || eqb (numberOf why) 9
 
--- The transfer under way after a call.
-abbrev pub nextLive : Note → Live → Live
-nextLive (began x buf) l = live x buf
-nextLive (stepped a y now) l = stepLive a l
-nextLive cancelled l = none
-nextLive nothing l = l
+-- What a call and its answer tell of the transfer under way: one began (its fields and buffer); a step left it under way and reported a stage complete or not,
+-- or ended it with a count (sample and buffer); it broke, that is, ended without a count; or nothing.
+pub data Note : Type 0 where
+  began : Begin → List ℕ → Note
+  stepped : Bool → Sample → List ℕ → Note
+  finished : Sample → List ℕ → Note
+  broke : Note
+  nothing : Note
 
--- A stage that is reported complete ends its watch; so does a begin.
-abbrev pub stepWatch : StepAnswer → Watch → Sample → Watch
-stepWatch (Waiting again) w y = cond (finds y) unarmed (seen w y)
-stepWatch (Done k) w y = cond (finds y) unarmed (seen w y)
-stepWatch (Refused why) w y = seen w y
+-- Of a step: "the step that finds TRANS_COMPLETE reports one complete".
+abbrev pub noteStep : StepAnswer → Sample → List ℕ → Note
+noteStep (Waiting again) y now = stepped (finds y) y now
+noteStep (Done k) y now = finished y now
+noteStep (Refused why) y now = cond (ends why) broke (stepped false y now)
 
--- The watch after a call, which started these packets.
-abbrev pub nextWatch : Note → Watch → List Event → Watch
-nextWatch (began x buf) w es = marks unarmed es
-nextWatch (stepped a y now) w es = marks (stepWatch a w y) es
-nextWatch cancelled w es = marks w es
-nextWatch nothing w es = marks w es
+-- Of a call: a refused begin, a refused cancel and the calls on pipes tell nothing.
+abbrev pub note : (c : Call) → Answer c → Note
+note (begin x buf m log) accepted = began x buf
+note (begin x buf m log) (refusedBegin why) = nothing
+note (step b y buf m log) a = noteStep a y buf
+note cancel Cancelled = broke
+note cancel (refusedCancel why) = nothing
+note (openPipe a x e p i log) b = nothing
+note (closePipe n) a = nothing
+note (pollPipe n y m log) a = nothing
+note (interrupt ints status log) a = nothing
+note (detect sie log) a = nothing
 
--- A waiting step that finds TRANS_COMPLETE reports one stage complete.
-abbrev pub stepCount : StepAnswer → Sample → ℕ → ℕ
-stepCount (Waiting again) y n = cond (finds y) (suc n) n
-stepCount (Done k) y n = n
-stepCount (Refused why) y n = n
+-- What was told so far: the registers, as the logs performed in order leave them; the transfer under way, how many of its stages were reported complete and how
+-- many entries it armed; the marked packet of its stage.
+pub record Told : Type 0 where
+  pub file : File
+  pub live : Live
+  pub stages : ℕ
+  pub armings : ℕ
+  pub watch : Watch
 
--- The stages reported complete since the begin.
-abbrev pub nextCount : Note → ℕ → ℕ
-nextCount (began x buf) n = 0
-nextCount (stepped a y now) n = stepCount a y n
-nextCount cancelled n = n
-nextCount nothing n = n
+-- The same, field by field.
+abbrev pub told : File → Live → ℕ → ℕ → Watch → Told
+told f l n k w = record { file = f; live = l; stages = n; armings = k; watch = w }
 
--- A call that ends a transfer without a count: a step's refusal that ends it, or a cancel.
-abbrev pub stepFails : StepAnswer → Bool
-stepFails (Waiting again) = false
-stepFails (Done k) = false
-stepFails (Refused why) = ends why
+-- Before the first call, over any registers.
+abbrev pub untold : File → Told
+untold f = told f noTransfer 0 0 notArmed
 
--- The same of a call.
-abbrev pub fails : Note → Bool
-fails (began x buf) = false
-fails (stepped a y now) = stepFails a
-fails cancelled = true
-fails nothing = false
+-- After a call whose log left these registers and started k entries: a transfer counts its stages and entries from its begin on, and each stage has its own watch.
+abbrev pub heard : Note → Told → File → ℕ → List Event → Told
+heard (began x buf) t f k es = told f (live x buf) 0 k (marks notArmed es)
+heard (stepped true y now) t f k es = told f (t .live) (suc (t .stages)) (t .armings + k) (marks notArmed es)
+heard (stepped false y now) t f k es = told f (t .live) (t .stages) (t .armings + k) (marks (seen (t .watch) y) es)
+heard (finished y now) t f k es = untold f
+heard broke t f k es = told f noTransfer 0 (t .armings + k) notArmed
+heard nothing t f k es = told f (t .live) (t .stages) (t .armings + k) (marks (t .watch) es)
+
+-- After a call.
+abbrev pub hears : Told → (c : Call) → Effect c → Told
+hears t c o = heard (note c (o .answer)) t (performs (t .file) (o .writes)) (length (wire (t .file) (o .writes) (o .memory))) (events (t .file) (o .writes))

@@ -4,12 +4,10 @@ use mathlib.Core.Bool.{Bool, true, false}
 use mathlib.Core.List.{List, [], _∷_, _++_}
 use Prim.Native.Nat.{ℕ}
 use lib.ListN.{length}
-use Rattle.record.specs.Segments.{Element, entry, failed, Reading, unfailed}
+use Rattle.transfers.specs.Reply.{Reply, result, number}
+use Rattle.record.specs.Segments.{Element, entry, failedEntry, Reading, unfailed}
 use Rattle.record.specs.Bytes.{headFor, encodeElement, encodeElements}
 use Rattle.record.specs.Place.{ElementInRange}
-use Rattle.record.specs.declared.refusal.Refusal.the-variants.{Mark as badMark, Field, Grammar}
-use Rattle.record.specs.declared.reader.CheckAnswer.{CheckAnswer}
-use Rattle.record.specs.declared.reader.CheckAnswer.the-variants.{Transfers, Refused}
 
 -- The two versions.
 abbrev pub versionNumber : Bool → ℕ
@@ -23,7 +21,7 @@ recordIn two ms = headFor (versionNumber two) ++ encodeElements ms
 -- An entry of a version: 0x58 is one of version 2's alone.
 abbrev pub OfVersion : Bool → Element → Type 0
 OfVersion two (entry e) = Unit {0}
-OfVersion two (failed m) = two ≡ true
+OfVersion two (failedEntry m) = two ≡ true
 
 -- With its fields in their ranges.
 abbrev pub Ranged : Bool → Element → Type 0
@@ -57,7 +55,7 @@ pub record NoEntry (s : List ℕ) : Type 0 where
   pub ranged : AllRanged two ms
   pub viable : Viable two ms
   pub more : rest ≡ [] → ⊥
-  pub none : (m : Element) (r : List ℕ) → Ranged two m → rest ≡ encodeElement m ++ r → ⊥
+  pub no-entry : (m : Element) (r : List ℕ) → Ranged two m → rest ≡ encodeElement m ++ r → ⊥
 
 -- "20 the first after which no grammatical end is possible", a count that is wrong among them.
 pub record NoWayOn (s : List ℕ) : Type 0 where
@@ -87,10 +85,10 @@ pub record Whole (s : List ℕ) : Type 0 where
   pub is : s ≡ recordIn two ms
   pub reads : Reads two ms
 
--- The answer that the bytes deserve: the count is that of the transfers that didn't fail.
-pub data Verdict (s : List ℕ) (a : CheckAnswer) : Type 0 where
-  mark : Unmarked s → a ≡ Refused badMark → Verdict s a
-  field : NoEntry s → a ≡ Refused Field → Verdict s a
-  grammar : NoWayOn s → a ≡ Refused Grammar → Verdict s a
-  unfinished : Unfinished s → a ≡ Refused Grammar → Verdict s a
-  whole : (w : Whole s) → a ≡ Transfers (length (unfailed (w .reads .reading .segments) (w .reads .reading .last))) → Verdict s a
+-- The answer that the bytes deserve: a number, or the count of the transfers that didn't fail.
+pub data Verdict (s : List ℕ) (a : Reply ℕ) : Type 0 where
+  noHead : Unmarked s → a ≡ number 18 → Verdict s a
+  noEntry : NoEntry s → a ≡ number 19 → Verdict s a
+  noWayOn : NoWayOn s → a ≡ number 20 → Verdict s a
+  unfinished : Unfinished s → a ≡ number 20 → Verdict s a
+  isWhole : (w : Whole s) → a ≡ result (length (unfailed (w .reads .reading .segments) (w .reads .reading .last))) → Verdict s a

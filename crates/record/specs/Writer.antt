@@ -6,7 +6,7 @@ use Prim.Native.Nat.{ℕ, _+_}
 use lib.ListN.{length}
 use lib.Seq.{sets}
 use lib.Dec.{eqb, leb}
-use Rattle.transfers.specs.Memory.{memoryFits}
+use Rattle.transfers.specs.Reply.{Reply, result, number}
 use Rattle.transfers.specs.declared.answers.Armed.{Armed}
 use Rattle.transfers.specs.declared.answers.OptionEntries.{OptionEntries}
 use Rattle.transfers.specs.declared.answers.OptionEntries.the-variants.{Some as someCount, None as noCount}
@@ -16,10 +16,8 @@ use Rattle.transfers.specs.declared.answers.OptionOut.{OptionOut}
 use Rattle.transfers.specs.declared.answers.OptionOut.the-variants.{Some as someOut, None as noOut}
 use Rattle.record.specs.Armed.{entriesArmed}
 use Rattle.record.specs.Bytes.{headBytes, encodeAll, failedBytes}
-use Rattle.record.specs.declared.refusal.Refusal.{Refusal}
-use Rattle.record.specs.declared.refusal.Refusal.the-variants.{LentMemory, Field, Room}
+use Rattle.record.specs.Refusal.{appendReply}
 use Rattle.record.specs.declared.writer.AppendAnswer.{AppendAnswer}
-use Rattle.record.specs.declared.writer.AppendAnswer.the-variants.{Used, Refused}
 
 -- "address (0 to 127)", "endpoint (0 to 15)", "length (0 to 64)": the fields of what was armed lie in their ranges.
 abbrev pub setupInRange : OptionSetup → Bool
@@ -52,26 +50,26 @@ countBytes (someCount n) = failedBytes n
 unfoldable pub toldBytes : Armed → OptionEntries → List ℕ → ℕ → List ℕ
 toldBytes armed failed pm used = appended armed pm used ++ countBytes failed
 
--- What a call of the writer leaves: its answer, and every byte of the record.
+-- What a call of the writer leaves: its answer, the used length or a number, and every byte of the record.
 pub record Append : Type 0 where
-  pub answer : AppendAnswer
+  pub answer : Reply ℕ
   pub bytes : List ℕ
 
 -- "leaves .. record .. untouched"
-abbrev pub refusing : Refusal → List ℕ → Append
-refusing n l = record { answer = Refused n; bytes = l }
+abbrev pub refusing : ℕ → List ℕ → Append
+refusing n l = record { answer = number n; bytes = l }
 
 -- "15 packet memory not 4,096 bytes", then "19 a field outside its range", then "21 the used length is above the record's, or head and entries don't fit the rest".
 abbrev pub appendIf : Bool → Bool → Bool → List ℕ → List ℕ → ℕ → Append
-appendIf false ranged room new l used = refusing LentMemory l
-appendIf true false room new l used = refusing Field l
-appendIf true true false new l used = refusing Room l
-appendIf true true true new l used = record { answer = Used (used + length new); bytes = sets l used new }
+appendIf false ranged room new l used = refusing 15 l
+appendIf true false room new l used = refusing 19 l
+appendIf true true false new l used = refusing 21 l
+appendIf true true true new l used = record { answer = result (used + length new); bytes = sets l used new }
 
 -- A call of the writer, on any armed answer, packet memory, record and used length.
 unfoldable pub appendOf : Armed → OptionEntries → List ℕ → List ℕ → ℕ → Append
 appendOf armed failed pm l used =
-    appendIf (memoryFits pm) (armedInRange armed) (leb (used + length (toldBytes armed failed pm used)) (length l)) (toldBytes armed failed pm used) l used
+    appendIf (eqb (length pm) 4096) (armedInRange armed) (leb (used + length (toldBytes armed failed pm used)) (length l)) (toldBytes armed failed pm used) l used
 
 -- The lengths of the entries: SETUP 10 bytes, OUT 6 and its own.
 abbrev pub setupSize : OptionSetup → ℕ
@@ -101,7 +99,7 @@ pub record Put (l : List ℕ) (at : ℕ) (vs : List ℕ) (l′ : List ℕ) (at�
   pub bytes : l′ ≡ sets l at vs
   pub next : at′ ≡ at + length vs
 
--- A call did what its definition says.
+-- A call did what its definition says, in document 01's numbers.
 pub record Appended (x : Append) (r : AppendAnswer) (l′ : List ℕ) : Type 0 where
-  pub answer : r ≡ x .answer
+  pub answer : appendReply r ≡ x .answer
   pub bytes : l′ ≡ x .bytes

@@ -1,7 +1,7 @@
 // Booleans: tests together, and a test as a byte.
 ghost use mathlib.Core.Path.{_≡_};
 ghost use mathlib.Core.Bool.{true, _&&_, _||_, Bool·beq};
-ghost use Rattle.record.specs.Bytes.{bit};
+ghost use Rattle.record.specs.Bytes.{flagByte};
 
 pub(crate) fn both(a: bool, b: bool) -> bool
     ensures { λ r. ⌜ (r ≡ (a && b)) × (r ≡ true → b ≡ true) ⌝ }
@@ -22,7 +22,7 @@ pub(crate) fn same(a: bool, b: bool) -> bool
 }
 
 pub(crate) fn flag(b: bool) -> u8
-    ensures { λ r. ⌜ r ≡ bit b ⌝ }
+    ensures { λ r. ⌜ r ≡ flagByte b ⌝ }
 {
     if b { 1 } else { 0 }
 }

@@ -15,7 +15,10 @@ use crate::scan::starts_out;
 ghost use mathlib.Core.Path.{_≡_};
 ghost use Prim.Native.Nat.{_≤_};
 ghost use lib.ListN.{length};
-ghost use Rattle.record.specs.Reader.{finish, goOn, turnOf, checkOf};
+ghost use Rattle.record.specs.Grammar.{Bytes};
+ghost use Rattle.record.specs.Reader.{finish, goOn, turnOf};
+ghost use Rattle.record.specs.Refusal.{checkReply};
+ghost use Rattle.record.specs.Verdict.{Verdict};
 
 pub enum CheckAnswer {
     Transfers(usize),
@@ -97,9 +100,9 @@ fn turn_at(s: &[u8], two: bool, p: Progress) -> Turn
     }
 }
 
-// The number for which a record is refused, or the count of its transfers.
+// The number for which a record is refused, or the count of its transfers: what its bytes deserve, in the grammar's terms.
 pub fn check(s: &[u8]) -> CheckAnswer
-    ensures { λ r. ⌜ r ≡ checkOf (now (s .entry)) ⌝ }
+    ensures { λ r. ⌜ (Bytes (now (s .entry)) → Verdict (now (s .entry)) (checkReply r)) ⌝ }
 {
     if !head_right(s) {
         return CheckAnswer::Refused(Refusal::Mark);

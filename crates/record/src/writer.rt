@@ -16,6 +16,7 @@ ghost use mathlib.Core.Path.{_≡_};
 ghost use mathlib.Core.Bool.{true};
 ghost use Prim.Native.Nat.{_+_, _≤_};
 ghost use lib.ListN.{length};
+ghost use Rattle.transfers.specs.Memory.{MemoryFits};
 ghost use Rattle.record.specs.Bytes.{encode, encodeAll, failedBytes};
 ghost use Rattle.record.specs.Armed.{setupEntry, entryArmed, setupsArmed, outsArmed};
 ghost use Rattle.record.specs.Writer.{setupInRange, outInRange, armedInRange, headOf, appended, countBytes, toldBytes, appendOf, setupSize, outSize, armedSize, countSize, headSize, Put, Appended};
@@ -136,7 +137,7 @@ fn put_setup(bytes: &mut [u8], at: usize, s: ArmedSetup) -> usize
 }
 
 fn put_out(bytes: &mut [u8], at: usize, x: ArmedOut, pm: &[u8]) -> usize
-    requires { ⌜ (at + (6 + x .arm .length) ≤ length (now bytes)) × (x .arm .length ≤ 64) × (length (now pm) ≡ 4096) ⌝ }
+    requires { ⌜ (at + (6 + x .arm .length) ≤ length (now bytes)) × (x .arm .length ≤ 64) × MemoryFits (now pm) ⌝ }
     ensures { λ r. ⌜ Put (now (bytes .entry)) at (encode (entryArmed (now (pm .entry)) x)) (now (bytes .exit)) r ⌝ }
 {
     let arm = x.arm;
@@ -159,7 +160,7 @@ fn put_setup_if(bytes: &mut [u8], at: usize, setup: OptionSetup) -> usize
 }
 
 fn put_out_if(bytes: &mut [u8], at: usize, out: OptionOut, pm: &[u8]) -> usize
-    requires { ⌜ (at + outSize out ≤ length (now bytes)) × (outInRange out ≡ true) × (length (now pm) ≡ 4096) ⌝ }
+    requires { ⌜ (at + outSize out ≤ length (now bytes)) × (outInRange out ≡ true) × MemoryFits (now pm) ⌝ }
     ensures { λ r. ⌜ Put (now (bytes .entry)) at (encodeAll (outsArmed (now (pm .entry)) out)) (now (bytes .exit)) r ⌝ }
 {
     match out {
@@ -169,7 +170,7 @@ fn put_out_if(bytes: &mut [u8], at: usize, out: OptionOut, pm: &[u8]) -> usize
 }
 
 fn put_armed(bytes: &mut [u8], used: usize, armed: Armed, pm: &[u8]) -> usize
-    requires { ⌜ (used + (headSize used + armedSize armed) ≤ length (now bytes)) × (armedInRange armed ≡ true) × (length (now pm) ≡ 4096) ⌝ }
+    requires { ⌜ (used + (headSize used + armedSize armed) ≤ length (now bytes)) × (armedInRange armed ≡ true) × MemoryFits (now pm) ⌝ }
     ensures { λ r. ⌜ Put (now (bytes .entry)) used (appended armed (now (pm .entry)) used) (now (bytes .exit)) r ⌝ }
 {
     let setup = armed.setup;
@@ -213,7 +214,7 @@ fn put_failed_if(bytes: &mut [u8], at: usize, failed: OptionEntries) -> usize
 }
 
 fn put_told(bytes: &mut [u8], used: usize, armed: Armed, failed: OptionEntries, pm: &[u8]) -> usize
-    requires { ⌜ (used + (headSize used + armedSize armed + countSize failed) ≤ length (now bytes)) × (armedInRange armed ≡ true) × (length (now pm) ≡ 4096) ⌝ }
+    requires { ⌜ (used + (headSize used + armedSize armed + countSize failed) ≤ length (now bytes)) × (armedInRange armed ≡ true) × MemoryFits (now pm) ⌝ }
     ensures { λ r. ⌜ Put (now (bytes .entry)) used (toldBytes armed failed (now (pm .entry)) used) (now (bytes .exit)) r ⌝ }
 {
     let a = put_armed(bytes, used, armed, pm);

@@ -4,10 +4,13 @@ use mathlib.Core.Path.{sym, _∙_}
 use native.Mathlib.Omega.{arith}
 use borrow.Author.Tests.{not-true, not-false}
 use Rattle.record.specs.Reader.{checkOf}
+use Rattle.record.specs.declared.refusal.Refusal.the-variants.{Mark}
+use Rattle.record.specs.declared.reader.CheckAnswer.the-variants.{Refused}
 use Prim.Native.Nat.{_-_}
 use borrow.Author.Needs.{needs}
 use lib.ListN.{length}
 use denote.Ref.{now}
+use Rattle.record.proofs.Verdicts.{verdict-of}
 use Rattle.record.proofs.Turns.{Reached, head-five, start, onward, turn-onward, read-stop}
 use Rattle.record.proofs.reader.check.Statement.{statement}
 use Rattle.record.proofs.reader.check.Tie as tie
@@ -23,7 +26,7 @@ head-right-requires c κs = search needs
 
 returns : tie.Need-returns Inv-loop μ-loop
 unfolding checkOf
-returns c = simp (sym ((c .before .head-right) .ensures) ∙ not-true _ (c .if1 .taken))
+returns c = verdict-of (now ((c .before .before .before .args) .s)) (Refused Mark) (simp (sym ((c .before .head-right) .ensures) ∙ not-true _ (c .if1 .taken)))
 
 version-requires : tie.Need-version-requires Inv-loop μ-loop
 version-requires c κs = search needs
@@ -60,8 +63,9 @@ unfolding checkOf
 returns-2 c =
     let s = now ((c .before .before .before .before .before .before .before .before .before .args) .s) in
     let l = c .before .before .before .before .loop in
+    verdict-of s ((c .before .t2) .given .0 .0) (
     simp (sym ((c .before .before .before .before .before .before .before .head-right) .ensures) ∙ not-false _ (c .before .before .before .before .before .before .if1 .left), ← ((c .before .before .before .before .before .version) .ensures))
-    (sym (read-stop (l .inv .fuel) s _ (l .p) _ (sym ((c .before .before .before .turn-at) .ensures) ∙ (c .before .t2) .given .1)) ∙ l .inv .same)
+    (sym (read-stop (l .inv .fuel) s _ (l .p) _ (sym ((c .before .before .before .turn-at) .ensures) ∙ (c .before .t2) .given .1)) ∙ l .inv .same))
 
 pub check-spec : {M : Type 1} → statement M
 check-spec =

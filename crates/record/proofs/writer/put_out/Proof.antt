@@ -9,6 +9,7 @@ use denote.Ref.{now}
 use Rattle.transfers.specs.Memory.{slotAddress}
 use Rattle.transfers.proofs.Stores.{slot-inside}
 use Rattle.record.proofs.Encoding.{slot-length}
+use Rattle.record.proofs.Chips.{same-slot}
 use borrow.Author.Needs.{needs}
 use Rattle.record.proofs.writer.put_out.Statement.{statement}
 use Rattle.record.proofs.writer.put_out.Tie as tie
@@ -56,7 +57,7 @@ returns c =
     let h : a .x .arm .length ≤ length (now (a .pm)) - s = omega (arith, (c .before .before .before .before .before .before .before .before .before .before .before .before .before .before .before .before .before .before .before .before .before .before .before .before .pre), slot-inside (a .x .arm .slot)) in
     let p2 = rw ((c .before .before .before .before .before .before .before .before .before .before .before .before .before .flag) .ensures) at ((c .before .before .before .before .before .before .before .before .before .before .before .before .put-pair2) .ensures) in
     let p3 = rw ((c .before .before .before .before .before .before .before .before .flag2) .ensures) at ((c .before .before .before .before .before .before .before .put-pair3) .ensures) in
-    let p4 = rw ((c .before .before .before .before .before .before .before .before .before .before .before .before .before .before .before .before .before .before .before .before .slot-address) .ensures, take-take (a .x .arm .length) (length (now (a .pm)) - s) (drop s (now (a .pm))) h) at ((c .before .before .put-part) .ensures) in
+    let p4 = rw ((c .before .before .before .before .before .before .before .before .before .before .before .before .before .before .before .before .before .before .before .before .slot-address) .ensures, take-take (a .x .arm .length) (length (now (a .pm)) - s) (drop s (now (a .pm))) h, same-slot (a .x .arm .slot)) at ((c .before .before .put-part) .ensures) in
     rw (slot-length (now (a .pm)) (a .x .arm .slot) (a .x .arm .length) ((c .before .before .before .before .before .before .before .before .before .before .before .before .before .before .before .before .before .before .before .before .before .before .before .before .pre) .2) ((c .before .before .before .before .before .before .before .before .before .before .before .before .before .before .before .before .before .before .before .before .before .before .before .before .pre) .1))
     (then ((c .before .before .before .before .before .before .before .before .before .before .before .before .before .before .before .before .before .put-pair) .ensures) (then p2 (then p3 p4)))
 
