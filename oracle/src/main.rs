@@ -76,11 +76,18 @@ mod rp2040 {
             (pipes, shared.device_waker.take_woken())
         }
 
+        /// The first packet of these bytes at packet size 0.
         #[cfg(test)]
-        pub fn variable_size_packets_of_0(bytes: &[u8]) {
-            use super::{OutPacketiser, ZeroLengthPacket};
-            let length = bytes.len() as u16;
-            OutPacketiser::new(length, 0, bytes, false, ZeroLengthPacket::AsNeeded);
+        pub fn first_at_0(
+            kind: super::TransferType,
+            bytes: &[u8],
+        ) -> Option<(usize, bool)> {
+            use super::{OutPacketiser, TransferType, ZeroLengthPacket};
+            let zlp = match kind {
+                TransferType::FixedSize => ZeroLengthPacket::Never,
+                TransferType::VariableSize => ZeroLengthPacket::AsNeeded,
+            };
+            OutPacketiser::new(bytes.len() as u16, 0, bytes, false, zlp).next_packet()
         }
     }
 }

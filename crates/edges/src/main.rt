@@ -1,4 +1,8 @@
-// Runs the smallest inputs of docs/DIFFERENCES.md that no replay script can give.
+// Runs what no replay script can give: smallest inputs of docs/DIFFERENCES.md, and forged states at the bounds of 16.
+mod bounds;
+mod forged;
+mod stages;
+
 use cutting::packetiser::OptionArm;
 use cutting::packetiser::OutCounters;
 use cutting::transfer_type::TransferType;
@@ -39,21 +43,30 @@ fn pools() {
     print_flag(b"free 0 of a fresh pool:", freed.was);
 }
 
-// One byte at packet size 0.
-fn packets() {
-    let counters = OutCounters::new(TransferType::FixedSize, 0, false, 1);
+fn packet(text: &[u8], kind: TransferType, length: u16) {
+    let counters = OutCounters::new(kind, 0, false, length);
     let next = counters.next_packet();
     let arm = next.arm;
     match arm {
-        OptionArm::Some(a) => print(b"1 byte at 0:", a.length as u64),
+        OptionArm::Some(a) => print(text, a.length as u64),
         OptionArm::None => {
-            io::write_all(STDOUT_FILENO, b"1 byte at 0: no packet\n");
+            io::write_all(STDOUT_FILENO, text);
+            io::write_all(STDOUT_FILENO, b" no packet\n");
         }
     }
+}
+
+// A packet size of 0.
+fn packets() {
+    packet(b"0 bytes at 0, variable:", TransferType::VariableSize, 0);
+    packet(b"0 bytes at 0, fixed:", TransferType::FixedSize, 0);
+    packet(b"1 byte at 0, fixed:", TransferType::FixedSize, 1);
 }
 
 fn main() {
     bits();
     pools();
     packets();
+    stages::stages();
+    bounds::bounds();
 }

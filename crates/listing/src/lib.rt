@@ -11,6 +11,13 @@ use record::reader::CheckAnswer;
 use record::reader::check;
 use record::refusal::Refusal;
 use record::refusal::number;
+ghost use mathlib.Core.Path.{_≡_};
+ghost use Prim.Native.Nat.{_≤_, _<_};
+ghost use lib.ListN.{length};
+ghost use Rattle.transfers.specs.Reply.{number};
+ghost use Rattle.record.specs.Grammar.{Bytes};
+ghost use Rattle.record.specs.Refusal.{checkReply};
+ghost use Rattle.record.specs.Verdict.{Verdict};
 
 // A space and a number.
 fn print_number(n: usize) {
@@ -81,7 +88,7 @@ fn print_item(s: &[u8], cursor: Cursor) -> Turn {
     }
 }
 
-pub fn print_refusal(refusal: Refusal) {
+fn print_refusal(refusal: Refusal) {
     io::write_all(STDOUT_FILENO, b"refused");
     print_number(number(refusal) as usize);
     io::write_all(STDOUT_FILENO, b"\n");
@@ -113,11 +120,29 @@ fn print_transfers(s: &[u8], count: usize) {
     io::write_all(STDOUT_FILENO, b"\n");
 }
 
+// "a record of at most 65,536 bytes .. 21 if the input is longer": else what the reader answers.
+fn limited(s: &[u8]) -> CheckAnswer
+    ensures { λ r. ⌜ (65536 < length (now (s .entry)) → checkReply r ≡ number 21) ⌝ }
+    ensures { λ r. ⌜ (length (now (s .entry)) ≤ 65536 → Bytes (now (s .entry)) → Verdict (now (s .entry)) (checkReply r)) ⌝ }
+{
+    if 65536 < s.len() {
+        return CheckAnswer::Refused(Refusal::Room);
+    }
+    check(s)
+}
+
 // Lists a record's transfers, or says why it is refused.
-pub fn print_record(s: &[u8]) {
-    let answer = check(s);
+fn print_record(s: &[u8]) {
+    let answer = limited(s);
     match answer {
         CheckAnswer::Refused(refusal) => print_refusal(refusal),
         CheckAnswer::Transfers(count) => print_transfers(s, count),
+    }
+}
+
+// The record is the first n bytes.
+pub fn print_first(room: &[u8], n: usize) {
+    if n <= room.len() {
+        print_record(&room[..n]);
     }
 }

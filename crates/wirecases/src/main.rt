@@ -1,19 +1,12 @@
 // Lists many records: standard input has one a line, as the replay script's BYTES. Lines that begin with # are skipped.
 use libc::STDIN_FILENO;
 use libc::STDOUT_FILENO;
-use listing::print_record;
+use listing::print_first;
 use script::bytes::OptionCount;
 use script::bytes::bytes;
 use script::field::end_of;
 ghost use Prim.Native.Nat.{_≤_, _<_};
 ghost use lib.ListN.{length};
-
-// The record is the first n bytes.
-fn print_first(room: &[u8], n: usize) {
-    if n <= room.len() {
-        print_record(&room[..n]);
-    }
-}
 
 fn print_case(line: &[u8], room: &mut [u8; 131072]) {
     let count = bytes(line, room);

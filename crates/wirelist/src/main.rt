@@ -1,15 +1,18 @@
 // Lists the record on standard input.
 use libc::STDIN_FILENO;
-use listing::print_record;
-use listing::print_refusal;
-use record::refusal::Refusal;
+use listing::print_first;
+ghost use Prim.Native.Nat.{_<_};
+ghost use lib.ListN.{length};
+
+// The first n bytes are the input. There is room for more than "65,536 bytes", so that a longer one is seen.
+fn print_input(room: &[u8], n: usize)
+    requires { ⌜ 65536 < length (now room) ⌝ }
+{
+    print_first(room, n);
+}
 
 fn main() {
-    let mut buffer = [0u8; 65537];
-    let n = io::read_full(STDIN_FILENO, &mut buffer);
-    if 65536 < n {
-        print_refusal(Refusal::Room);
-    } else {
-        print_record(&buffer[..n]);
-    }
+    let mut room = [0u8; 65537];
+    let n = io::read_full(STDIN_FILENO, &mut room);
+    print_input(&room, n);
 }

@@ -57,7 +57,7 @@ impl<W: Write> Vectors<W> {
         Ok(())
     }
 
-    /// 65,535 bytes from begin to end at 64; at 1, 8 and 63 the steps above are all.
+    /// IN of 65,535 bytes from begin to end at 64; OUT is played so in record.rs.
     fn longest(&mut self) -> io::Result<()> {
         self.case("bulk In of 65,535 at 64, to the end")?;
         self.line(&bulk(Way::In, 64, "variable", 1, 65_535))?;

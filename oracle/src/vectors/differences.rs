@@ -48,7 +48,8 @@ mod tests {
     use crate::async_pool::{self, Pool};
     use crate::bitset::BitSet;
     use crate::driver::{Answer, Driver};
-    use crate::rp2040;
+    use crate::host_controller::{DeviceStatus, TransferType, UsbSpeed};
+    use crate::rp2040::view::first_at_0;
     use crate::rules::Lent;
 
     /// Each script's last block has the answer, or a line, that its row names.
@@ -75,7 +76,7 @@ mod tests {
                 assert!(found, "{}: {script}\n{last}", row.number);
             }
         }
-        assert_eq!(without, ["1", "2", "3", "5", "15"]);
+        assert_eq!(without, ["1", "2", "3", "5", "15", "22"]);
     }
 
     #[test]
@@ -110,8 +111,14 @@ mod tests {
 
     #[test]
     #[should_panic(expected = "divisor of zero")]
-    fn difference_5() {
-        rp2040::view::variable_size_packets_of_0(&[0]);
+    fn difference_5_variable() {
+        first_at_0(TransferType::VariableSize, &[]);
+    }
+
+    #[test]
+    fn difference_5_fixed() {
+        assert_eq!(first_at_0(TransferType::FixedSize, &[]), Some((0, true)));
+        assert_eq!(first_at_0(TransferType::FixedSize, &[0]), Some((0, false)));
     }
 
     #[test]
@@ -122,5 +129,14 @@ mod tests {
         assert!(!found(driver.detect(Lent::whole(), 0x100)));
         driver.detect_anew();
         assert!(found(driver.detect(Lent::whole(), 0x100)));
+    }
+
+    #[test]
+    fn difference_22() {
+        let high = DeviceStatus::Present(UsbSpeed::High480);
+        for speed in 0..4 {
+            let answer = Driver::fresh().detect(Lent::whole(), speed << 8);
+            assert!(!matches!(answer, Ok(Answer::Device(status)) if status == high));
+        }
     }
 }

@@ -3,8 +3,8 @@ use mathlib.Core.Path.{sym}
 use native.Mathlib.Omega.{arith}
 use lib.Seq.{length-take-le}
 use borrow.Author.Needs.{needs}
-use Rattle.wirecases.proofs.print_first.Statement.{statement}
-use Rattle.wirecases.proofs.print_first.Tie as tie
+use Rattle.listing.proofs.print_first.Statement.{statement}
+use Rattle.listing.proofs.print_first.Tie as tie
 
 slice-aggregate-print-record : tie.Need-slice-aggregate-print-record
 slice-aggregate-print-record c = sym (length-take-le _ _ (omega arith))
