@@ -16,4 +16,5 @@ pub mod Free
 pub mod Outside
 pub mod Writes
 pub mod PacketRules
+pub mod AllOpen
 pub mod Example

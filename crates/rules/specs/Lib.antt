@@ -5,5 +5,6 @@ pub mod Received
 pub mod Armed
 pub mod Writes
 pub mod PacketRules
+pub mod AllOpen
 -- A reading aid: one transfer, computed.
 pub mod Example

@@ -1,1 +1,1 @@
-// The packet rules, proved over the calls of `transfers`: theorems alone, no code. `specs/PacketRules.antt` says them, `packet-rules` proves them.
+// Theorems over the calls of `transfers`, no code: the packet rules (`packet-rules`, said in `specs/PacketRules.antt`), and 10 exactly where all 15 pipes are open (`ten-exactly`, `specs/AllOpen.antt`).

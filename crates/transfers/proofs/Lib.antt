@@ -19,4 +19,3 @@ pub mod Untouched
 pub mod ProvedTable
 pub mod Replies
 pub mod PipeReplies
-pub mod AllOpen

@@ -23,7 +23,6 @@ pub mod Rows
 pub mod Isolation
 pub mod Apart
 pub mod ProvedTable
-pub mod AllOpen
 -- What the crate's own functions are held to.
 pub mod Arms
 pub mod Starts

@@ -19,18 +19,18 @@ use Rattle.pool.specs.Pipe.{offset, pipes, pipeOf, Counted}
 use Rattle.pool.proofs.Pools.{alloc-some}
 use Rattle.pool.proofs.Sets.{first, first-is}
 use Rattle.pool.proofs.Pipes.{index-of, index-of-pipe}
 use Rattle.transfers.specs.declared.host_controller.TransferExtras.{TransferExtras}
 use Rattle.transfers.specs.declared.driver.Driver.{Driver}
 use Rattle.transfers.specs.declared.pipes.OpenAnswer.the-variants.{Pipe as OpenPipe}
 use Rattle.transfers.specs.Reply.{result, number}
 use Rattle.transfers.specs.Memory.{logFits}
 use Rattle.transfers.specs.State.{addressGood, endpointGood, sizeGood}
 use Rattle.transfers.specs.Pipes.{openNumber, openIndex, openFree, openIf, openingPipe, opening, indexOpen, poolOf}
 use Rattle.transfers.specs.Isolation.{isOpen, isSome}
 use Rattle.transfers.specs.Rows.{unless, lowestShut}
-use Rattle.transfers.specs.AllOpen.{FifteenOpen, TenExactly}
+use Rattle.rules.specs.AllOpen.{FifteenOpen, TenExactly}
 use Rattle.transfers.proofs.OpenPipes.{open-some}
 use Rattle.transfers.proofs.PipeReplies.{open-row}
 
 -- A pipe from 1 to 15 whose index the pool has handed out is open.
 open-has : (p : BitSet) (n : PipeNumber) → 1 ≤ n .0 → n .0 ≤ pipes → has (p .0) (n .0 - offset) ≡ true → isOpen p n ≡ true
