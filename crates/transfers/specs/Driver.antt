@@ -20,7 +20,7 @@ use Rattle.transfers.specs.Pipes.{freshPipes}
 abbrev pub fresh : Driver
 fresh = record { transfer = Idle; entries = 0; pipes = freshPipes; last = Absent }
 
--- Pipes and last status stay.
+-- Another transfer, and the count of its entries; pipes and last status stay.
 abbrev pub withTransfer : Driver → Transfer → ℕ → Driver
 withTransfer d t n = record { transfer = t; entries = n; pipes = d .pipes; last = d .last }
 

@@ -70,7 +70,7 @@ towards Out = 4
 unfoldable pub goWrites : Direction → List Write
 goWrites d = wr sieCtrl 0xE (towards d) ∷ delay ∷ wr sieCtrl 1 1 ∷ []
 
--- A poll clears the status, TRANS_COMPLETE (bit 18) excepted.
+-- "after writing 0xFF08_0000 to SIE_STATUS .. Else the same SIE_STATUS write is made". TRANS_COMPLETE "is bit 18, and the write has bit 19".
 abbrev pub polled : Write
 polled = wr sieStatus ones 0xFF08_0000
 
