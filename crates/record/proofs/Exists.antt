@@ -57,7 +57,7 @@ use Rattle.transfers.specs.Driver.{fresh, withTransfer}
 use Rattle.record.specs.Calls.{Begin, controlBegin, bulkBegin, Call, begin, step, beginning, call}
 use Rattle.record.specs.Asked.{Words, TypedSample, TypedBegin, AllTyped, Begun}
 use Rattle.record.specs.Told.{noTransfer, live, Watch, notArmed, inSlot, taken, seen, marks, finds, ends, stepped, broke, noteStep, note}
-use Rattle.record.specs.Premises.{sendsNext, LentIts, LentIf, TakenIf, CallGood}
+use Rattle.record.specs.Premises.{sendsNext, LentIts, LentIf, TakenIf, CallGood, CallLent, Unrefused}
 use Rattle.record.specs.Fates.{begunBy, begunFrom}
 use Rattle.record.proofs.Heard.{nextLive, nextWatch, nextCount, breaks}
 use Rattle.record.proofs.Unbroken.{UnbrokenFrom}
@@ -198,6 +198,8 @@ module _ (m log : List ℕ) (fits : lentFits m log ≡ true) (mb : Bytes m) (lw 
     typed : AllTyped cs
     counts : breaks (noteStep (o .answer) y buf) ≡ false
     good : CallGood (noteStep (o .answer) y buf) (live x buf) n w (events f (o .writes))
+    lends : CallLent (noteStep (o .answer) y buf) (live x buf)
+    unrefused : (b : Bool) → Unrefused (step b y buf m log) (o .answer)
     premises : (k : ℕ) → UnbrokenFrom (nextLive (noteStep (o .answer) y buf) (live x buf)) (nextCount (noteStep (o .answer) y buf) n) (nextWatch (noteStep (o .answer) y buf) w (events f (o .writes))) (performs f (o .writes)) (withTransfer e (o .next) k) cs
     begun : (k : ℕ) → begunFrom (withTransfer e (o .next) k) cs ≡ gs
 
@@ -208,8 +210,9 @@ module _ (m log : List ℕ) (fits : lentFits m log ≡ true) (mb : Bytes m) (lw 
     fin-step b t y cs o bb ty q g = record {
       typed = ((ty, bb, mb, lw), g .typed);
       premises = λ k. subst (λ (o : Outcome). (breaks (noteStep (o .answer) y buf) ≡ false) × CallGood (noteStep (o .answer) y buf) (live x buf) n w (events f (o .writes))
+          × (CallLent (noteStep (o .answer) y buf) (live x buf) × Unrefused (step b y buf m log) (o .answer))
           × UnbrokenFrom (nextLive (noteStep (o .answer) y buf) (live x buf)) (nextCount (noteStep (o .answer) y buf) n) (nextWatch (noteStep (o .answer) y buf) w (events f (o .writes))) (performs f (o .writes)) (withTransfer e (o .next) (entriesStepped (o .answer) k (o .armed))) cs) (sym q)
-          (g .counts, g .good, g .premises (entriesStepped (o .answer) k (o .armed)));
+          (g .counts, g .good, (g .lends, g .unrefused b), g .premises (entriesStepped (o .answer) k (o .armed)));
       begun = λ k. subst (λ (o : Outcome). begunBy (noteStep (o .answer) y buf) ++ begunFrom (withTransfer e (o .next) (entriesStepped (o .answer) k (o .armed))) cs ≡ gs) (sym q)
           (ap (λ (l : List Begun). l ++ begunFrom (withTransfer e (o .next) (entriesStepped (o .answer) k (o .armed))) cs) (none-begun (o .answer) y buf) ∙ g .begun (entriesStepped (o .answer) k (o .armed)));
     }
@@ -222,6 +225,8 @@ module _ (m log : List ℕ) (fits : lentFits m log ≡ true) (mb : Bytes m) (lw 
       typed = h .typed;
       counts = refl;
       begun = h .begun;
+      lends = lent-own x buf;
+      unrefused = λ b. tt;
       good = (lent-if x buf (events f ws), subst (λ (v : Bool). TakenIf (v && sendsNext (live x buf) n) (seen w y)) (sym q) t);
       premises = λ k. subst (λ (v : Bool). UnbrokenFrom (live x buf) (cond v (suc n) n) (marks (cond v notArmed (seen w y)) (events f ws)) (performs f ws)
           (withTransfer e (busy x buf st) k) cs) (sym q) (h .premises k);
@@ -233,13 +238,15 @@ module _ (m log : List ℕ) (fits : lentFits m log ≡ true) (mb : Bytes m) (lw 
       typed = free .typed;
       counts = refl;
       begun = λ j. free .begun (withTransfer e Idle j) refl;
+      lends = lent-own x buf;
+      unrefused = λ b. tt;
       good = (lent-if x buf (events f (ws ++ [])), subst (λ (v : Bool). TakenIf (v && sendsNext (live x buf) n) (seen w doneSample)) (sym (finds-is doneSample ∙ ap isComplete completing)) h);
       premises = λ j. free .premises 0 notArmed (performs f (ws ++ [])) (withTransfer e Idle j) refl;
     }
 
     keeps : (s : Bool) (y : Sample) (o : Outcome) (cs : List Call) → Goes e x buf n w f y (after quietened o) cs
         → Goes e x buf n w f y (after polledOnly (keeping s buf (after quiets o))) cs
-    keeps true y o cs h = record { typed = h .typed; counts = h .counts; good = h .good; premises = h .premises; begun = h .begun }
+    keeps true y o cs h = record { typed = h .typed; counts = h .counts; good = h .good; lends = h .lends; unrefused = h .unrefused; premises = h .premises; begun = h .begun }
     keeps false y o cs h = h
 
     fin-stage : (b : Bool) (t : Transfer) (y : Sample) (cs : List Call) (s : Bool) (o : Outcome) → Bytes buf → TypedSample y
@@ -369,11 +376,13 @@ module _ (m log : List ℕ) (fits : lentFits m log ≡ true) (mb : Bytes m) (lw 
           typed = ((ty, bb, mb, lw), fin fresh (λ k. 0) .typed);
           premises = λ n w f d r.
               subst (λ (o : Beginning). (breaks (note c (o .answer)) ≡ false) × CallGood (note c (o .answer)) noTransfer n w (events f (o .writes))
+              × (CallLent (note c (o .answer)) noTransfer × Unrefused c (o .answer))
               × UnbrokenFrom (nextLive (note c (o .answer)) noTransfer) (nextCount (note c (o .answer)) n) (nextWatch (note c (o .answer)) w (events f (o .writes))) (performs f (o .writes)) (withTransfer d (o .next) (entriesBegun (o .answer) (d .entries) (o .armed))) cs)
               (sym (ap (λ (t : Transfer). beginning t x buf m log) r ∙ q))
               (subst (λ (v : BeginAnswer). (breaks (note c v) ≡ false) × CallGood (note c v) noTransfer n w (events f (o .writes))
+              × (CallLent (note c v) noTransfer × Unrefused c v)
               × UnbrokenFrom (nextLive (note c v) noTransfer) (nextCount (note c v) n) (nextWatch (note c v) w (events f (o .writes))) (performs f (o .writes)) (withTransfer d (o .next) (entriesBegun v (d .entries) (o .armed))) cs)
-              (sym a) (refl, tt, fin d f .premises (armedCount (o .armed))));
+              (sym a) (refl, tt, (tt, tt), fin d f .premises (armedCount (o .armed))));
           begun = λ d r.
               subst (λ (o : Beginning). begunBy (note c (o .answer)) ++ begunFrom (withTransfer d (o .next) (entriesBegun (o .answer) (d .entries) (o .armed))) cs ≡ record { fields = x; buffer = buf } ∷ gs)
               (sym (ap (λ (t : Transfer). beginning t x buf m log) r ∙ q))

@@ -103,7 +103,7 @@ record-is (c ∷ cs) l n w f d rest ty i h =
     let begun = armedByAll (begunBy t) in
     let later = armedByAll (begunFrom (o .next) cs) in
     let sp : rest ++ begun ≡ now ++ k .rest′ = subst (λ (v : Bool). Splits v (rest ++ begun) now (k .rest′)) (h .0) (k .split) in
-    let ih = record-is cs (nextLive t l) (nextCount t n) (nextWatch t w (events f (o .writes))) (performs f (o .writes)) (o .next) (k .rest′) (ty .1) (k .inv) (h .2) in
+    let ih = record-is cs (nextLive t l) (nextCount t n) (nextWatch t w (events f (o .writes))) (performs f (o .writes)) (o .next) (k .rest′) (ty .1) (k .inv) (h .3) in
     ap (λ (r : List Entry). now ++ r) ih
     ∙ sym (append-assoc now (k .rest′) later)
     ∙ ap (λ (r : List Entry). r ++ later) (sym sp)

@@ -12,7 +12,7 @@ use Rattle.record.specs.Wire.{File, wire}
 use Rattle.record.specs.Calls.{Call, call}
 use Rattle.record.specs.Asked.{AllTyped, Begun, armedBy, itemOf, listed}
 use Rattle.record.specs.Told.{Note, began, stepped, finished, broke, nothing, note, Told, untold}
-use Rattle.record.specs.Premises.{PremisesFrom}
+use Rattle.record.specs.Premises.{PremisesFrom, LentFrom, UnrefusedFrom}
 use Rattle.record.specs.Record.{failure, recordFrom}
 use Rattle.record.specs.Fates.{begunFrom, Fate, done, broken, underWay, fate, fatesFrom, allOf, endedOf, brokenOf, FirstsOf}
 use Rattle.record.specs.Term3.{fates, Premises, Unbroken, ComesFrom, Term3, InBytes}
@@ -26,6 +26,7 @@ use Rattle.record.proofs.Staging.{stages}
 use Rattle.record.proofs.Counted.{answered, counts-small}
 use Rattle.record.proofs.Roomy.{room}
 use Rattle.record.proofs.OneCapture.{one-capture}
+use Rattle.record.proofs.Verdicts.{one-verdict}
 use Rattle.record.proofs.Holding.{accepted}
 use Rattle.record.proofs.ReadBack.{written as written-back, read}
 
@@ -77,13 +78,23 @@ no-failure (c ∷ cs) t d h =
     let g = fate (note c (o .answer)) (underWay (t .live)) in
     subst (λ (v : Told). map entry now ++ (failure g (v .armings) ++ recordFrom v (o .next) cs) ≡ map entry (entriesFrom (t .file) d (c ∷ cs))) (hears-is t c o)
     (ap (λ (v : List Element). map entry now ++ (v ++ recordFrom u (o .next) cs)) (not-failed (note c (o .answer)) (underWay (t .live)) (u .armings) (h .0))
-    ∙ ap (λ (v : List Element). map entry now ++ v) (no-failure cs u (o .next) (h .2))
+    ∙ ap (λ (v : List Element). map entry now ++ v) (no-failure cs u (o .next) (h .3))
     ∙ sym (map-append entry now (entriesFrom (u .file) (o .next) cs)))
 
 premises : (cs : List Call) (t : Told) (d : Driver) → UnbrokenFrom (t .live) (t .stages) (t .watch) (t .file) d cs → PremisesFrom t d cs
 unfolding UnbrokenFrom PremisesFrom
 premises [] t d h = h
-premises (c ∷ cs) t d h = let o = call d c in (h .1, subst (λ (u : Told). PremisesFrom u (o .next) cs) (hears-is t c o) (premises cs (after t c o) (o .next) (h .2)))
+premises (c ∷ cs) t d h = let o = call d c in (h .1, subst (λ (u : Told). PremisesFrom u (o .next) cs) (hears-is t c o) (premises cs (after t c o) (o .next) (h .3)))
+
+lent : (cs : List Call) (t : Told) (d : Driver) → UnbrokenFrom (t .live) (t .stages) (t .watch) (t .file) d cs → LentFrom t d cs
+unfolding UnbrokenFrom LentFrom
+lent [] t d h = tt
+lent (c ∷ cs) t d h = let o = call d c in (h .2 .0, subst (λ (u : Told). LentFrom u (o .next) cs) (hears-is t c o) (lent cs (after t c o) (o .next) (h .3)))
+
+unrefused : (cs : List Call) (t : Told) (d : Driver) → UnbrokenFrom (t .live) (t .stages) (t .watch) (t .file) d cs → UnrefusedFrom d cs
+unfolding UnbrokenFrom UnrefusedFrom
+unrefused [] t d h = tt
+unrefused (c ∷ cs) t d h = let o = call d c in (h .2 .1, unrefused cs (after t c o) (o .next) (h .3))
 
 ended-only : (gs : List Begun) (fs : List Fate) → brokenOf (map done gs ++ fs) ≡ brokenOf fs
 ended-only [] fs = refl
@@ -103,7 +114,7 @@ all-ended (c ∷ cs) t d h =
     let o = call d c in
     let u = after t c o in
     subst (λ (v : Told). brokenOf (fate (note c (o .answer)) (underWay (t .live)) ++ fatesFrom v (o .next) cs) ≡ []) (hears-is t c o)
-    (none-broken (note c (o .answer)) (underWay (t .live)) (fatesFrom u (o .next) cs) (h .0) ∙ all-ended cs u (o .next) (h .2))
+    (none-broken (note c (o .answer)) (underWay (t .live)) (fatesFrom u (o .next) cs) (h .0) ∙ all-ended cs u (o .next) (h .3))
 
 comes : (f : File) (r : List Entry) → PlainReading r → ComesFrom f r
 comes f r h =
@@ -112,6 +123,8 @@ comes f r h =
       calls = k .calls;
       typed = k .typed;
       premises = premises (k .calls) (untold f) fresh (k .premises);
+      lent = lent (k .calls) (untold f) fresh (k .premises);
+      unrefused = unrefused (k .calls) (untold f) fresh (k .premises);
       unbroken = all-ended (k .calls) (untold f) fresh (k .premises);
       is = no-failure (k .calls) (untold f) fresh (k .premises) ∙ ap (map entry) (k .is);
     }
@@ -120,4 +133,4 @@ pub term3 : Term3
 term3 = record { unbroken = unbroken; comes = comes; recorded = recorded; table = table; stages = stages }
 
 pub in-bytes : InBytes
-in-bytes = record { answered = answered; counts = counts-small; written = written-back; room = room; read = read; accepted = accepted; one = one-capture }
+in-bytes = record { answered = answered; counts = counts-small; written = written-back; room = room; read = read; accepted = accepted; one = one-capture; verdicts = one-verdict }

@@ -8,7 +8,7 @@ use Rattle.record.specs.Grammar.{Entry}
 use Rattle.record.specs.Wire.{File, performs, events, wire}
 use Rattle.record.specs.Calls.{Call, call}
 use Rattle.record.specs.Told.{Live, noTransfer, Watch, note}
-use Rattle.record.specs.Premises.{CallGood}
+use Rattle.record.specs.Premises.{CallGood, CallLent, Unrefused}
 use Rattle.record.proofs.Heard.{nextLive, nextCount, nextWatch, breaks}
 
 unfoldable pub entriesFrom : File → Driver → List Call → List Entry
@@ -20,4 +20,4 @@ UnbrokenFrom l n w f d [] = l ≡ noTransfer
 UnbrokenFrom l n w f d (c ∷ cs) =
     let o = call d c in
     let k = note c (o .answer) in
-    (breaks k ≡ false) × CallGood k l n w (events f (o .writes)) × UnbrokenFrom (nextLive k l) (nextCount k n) (nextWatch k w (events f (o .writes))) (performs f (o .writes)) (o .next) cs
+    (breaks k ≡ false) × CallGood k l n w (events f (o .writes)) × (CallLent k l × Unrefused c (o .answer)) × UnbrokenFrom (nextLive k l) (nextCount k n) (nextWatch k w (events f (o .writes))) (performs f (o .writes)) (o .next) cs

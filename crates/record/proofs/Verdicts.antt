@@ -609,6 +609,10 @@ only-deserved s a b (unfinished u q) =
     ∙ sym q
 only-deserved s a b (isWhole u q) = ap checkReply (accepts s (u .two) (u .ms) (u .is) (u .reads)) ∙ sym q
 
+-- Any bytes deserve at most one answer.
+pub one-verdict : (s : List ℕ) (a b : Reply ℕ) → Bytes s → Verdict s a → Verdict s b → a ≡ b
+one-verdict s a b h v w = sym (only-deserved s a h v) ∙ only-deserved s b h w
+
 -- What `check` promises.
 pub verdict-of : (s : List ℕ) (a : CheckAnswer) → a ≡ checkOf s → Bytes s → Deserved s a
 verdict-of s a e b = subst (Deserved s) (sym e) (deserved s b)

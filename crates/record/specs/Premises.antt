@@ -6,9 +6,10 @@ use Prim.Native.Nat.{ℕ}
 use lib.Dec.{eqb}
 use Rattle.transfers.specs.declared.host_controller.DataPhase.the-variants.{In as phaseIn, Out as phaseOut, None as phaseNone}
 use Rattle.transfers.specs.declared.wire.Direction.the-variants.{In, Out}
+use Rattle.transfers.specs.declared.answers.StepAnswer.the-variants.{Waiting, Done, Refused}
 use Rattle.transfers.specs.declared.driver.Driver.{Driver}
 use Rattle.record.specs.Wire.{Event, events}
-use Rattle.record.specs.Calls.{controlBegin, bulkBegin, Call, call}
+use Rattle.record.specs.Calls.{controlBegin, bulkBegin, Call, begin, step, cancel, openPipe, closePipe, pollPipe, interrupt, detect, Answer, call}
 use Rattle.record.specs.Told.{Live, noTransfer, live, Watch, taken, seen, finds, Note, began, stepped, finished, broke, nothing, note, Told, hears}
 
 -- With n stages of the transfer reported complete, SETUP counted, the next is an OUT stage: "a bulk OUT, a control Out's data and a control In's status".
@@ -54,3 +55,36 @@ PremisesFrom t d [] = t .live ≡ noTransfer
 PremisesFrom t d (c ∷ cs) =
     let o = call d c in
     CallGood (note c (o .answer)) (t .live) (t .stages) (t .watch) (events (t .file) (o .writes)) × PremisesFrom (hears t c o) (o .next) cs
+
+-- ---- what a list made for a record meets beyond these
+
+-- "each step that acted on an OUT transfer was lent its begin's bytes": document 01's own form, of every step, also one that arms nothing; `PremisesFrom` asks less.
+abbrev pub CallLent : Note → Live → Type 0
+CallLent (began x buf) l = Unit {0}
+CallLent (stepped v y now) l = LentIts l now
+CallLent (finished y now) l = LentIts l now
+CallLent broke l = Unit {0}
+CallLent nothing l = Unit {0}
+
+-- Along a list.
+unfoldable pub LentFrom : Told → Driver → List Call → Type 0
+LentFrom t d [] = Unit {0}
+LentFrom t d (c ∷ cs) = let o = call d c in CallLent (note c (o .answer)) (t .live) × LentFrom (hears t c o) (o .next) cs
+
+-- A step "answers waiting, done with a count, or a refusal": one of the first two.
+abbrev pub Unrefused : (c : Call) → Answer c → Type 0
+Unrefused (begin x buf m log) a = Unit {0}
+Unrefused (step b y buf m log) (Waiting again) = Unit {0}
+Unrefused (step b y buf m log) (Done k) = Unit {0}
+Unrefused (step b y buf m log) (Refused why) = ⊥
+Unrefused cancel a = Unit {0}
+Unrefused (openPipe a x e p i log) b = Unit {0}
+Unrefused (closePipe n) a = Unit {0}
+Unrefused (pollPipe n y m log) a = Unit {0}
+Unrefused (interrupt ints status log) a = Unit {0}
+Unrefused (detect sie log) a = Unit {0}
+
+-- Along a list: each step acted, so "the sample of a step" that shows a packet taken is one of a step that acted.
+unfoldable pub UnrefusedFrom : Driver → List Call → Type 0
+UnrefusedFrom d [] = Unit {0}
+UnrefusedFrom d (c ∷ cs) = let o = call d c in Unrefused c (o .answer) × UnrefusedFrom (o .next) cs

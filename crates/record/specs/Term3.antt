@@ -6,7 +6,7 @@ use Prim.Native.Nat.{ℕ, _≤_}
 use lib.ListN.{length, take, drop}
 use Rattle.transfers.specs.Driver.{fresh}
 use Rattle.transfers.specs.Reply.{Reply, result}
-use Rattle.record.specs.Grammar.{Entry, partEntries, PlainReading, item}
+use Rattle.record.specs.Grammar.{Bytes, Entry, partEntries, PlainReading, item}
 use Rattle.record.specs.Segments.{Element, entry, Reading, unfailed}
 use Rattle.record.specs.Wire.{File}
 use Rattle.record.specs.Calls.{Call}
@@ -14,7 +14,7 @@ use Rattle.record.specs.Asked.{AllTyped, listed, itemOf, armedBy}
 use Rattle.record.specs.Told.{untold}
 use Rattle.record.specs.Record.{recordFrom, answeredFrom, CountsTo}
 use Rattle.record.specs.Fates.{Fate, fatesFrom, begunFrom, allOf, endedOf, brokenOf, FirstsOf, Made}
-use Rattle.record.specs.Premises.{PremisesFrom}
+use Rattle.record.specs.Premises.{PremisesFrom, LentFrom, UnrefusedFrom}
 use Rattle.record.specs.Table.{TableFrom}
 use Rattle.record.specs.Stages.{StagesFrom}
 use Rattle.record.specs.Bytes.{recordOf}
@@ -55,11 +55,14 @@ pub record Unbroken (f : File) (cs : List Call) : Type 0 where
   pub transfers : map item (reading .parts) ≡ map itemOf (listed (begunFrom fresh cs))
   pub packets : map partEntries (reading .parts) ≡ map armedBy (listed (begunFrom fresh cs))
 
--- A list of calls that meets the premises, without a failure, and has a given record.
+-- A list of calls that meets the premises, without a failure, and has a given record. It also meets document 01's own premise on the bytes lent (`lent`), and none of
+-- its steps is refused.
 pub record ComesFrom (f : File) (r : List Entry) : Type 0 where
   pub calls : List Call
   pub typed : AllTyped calls
   pub premises : Premises f calls
+  pub lent : LentFrom (untold f) fresh calls
+  pub unrefused : UnrefusedFrom fresh calls
   pub unbroken : brokenOf (fates f calls) ≡ []
   pub is : wireRecord f calls ≡ map entry r
 
@@ -110,7 +113,7 @@ pub record ReadBack (f : File) (cs : List Call) (s : List ℕ) : Type 0 where
 
 -- "Begin and step also answer what they armed", step and cancel the count; a transfer arms at most 65,536 entries, so that each count fits "a 32-bit count"; the
 -- writer "leaves exactly the driver's record", and is refused nowhere if there is room; the reader reads it;
--- any bytes that it accepts hand out their items, and any bytes are a record in at most one way.
+-- any bytes that it accepts hand out their items, any bytes are a record in at most one way, and any bytes deserve at most one answer.
 pub record InBytes : Type 0 where
   pub answered : (f : File) (cs : List Call) → AllTyped cs → wireRecord f cs ≡ answeredFrom fresh cs
   pub counts : (f : File) (cs : List Call) → AllTyped cs → CountsTo 65536 (wireRecord f cs)
@@ -120,3 +123,4 @@ pub record InBytes : Type 0 where
   pub accepted : (s : List ℕ) (n : ℕ) → Verdict s (result n) → Accepted s n
   pub one : (s : List ℕ) (v w : Whole s)
       → (v .two ≡ w .two) × (v .ms ≡ w .ms) × (v .reads .reading .segments ≡ w .reads .reading .segments) × (v .reads .reading .last ≡ w .reads .reading .last)
+  pub verdicts : (s : List ℕ) (a b : Reply ℕ) → Bytes s → Verdict s a → Verdict s b → a ≡ b
