@@ -17,4 +17,5 @@ pub mod Outside
 pub mod Writes
 pub mod PacketRules
 pub mod AllOpen
+pub mod HandsBack
 pub mod Example

@@ -6,5 +6,6 @@ pub mod Armed
 pub mod Writes
 pub mod PacketRules
 pub mod AllOpen
+pub mod HandsBack
 -- A reading aid: one transfer, computed.
 pub mod Example
