@@ -18,4 +18,6 @@ pub mod Writes
 pub mod PacketRules
 pub mod AllOpen
 pub mod HandsBack
+pub mod PipeStates
+pub mod Stores
 pub mod Example

@@ -7,5 +7,7 @@ pub mod Writes
 pub mod PacketRules
 pub mod AllOpen
 pub mod HandsBack
+pub mod PipeStates
+pub mod Stores
 -- A reading aid: one transfer, computed.
 pub mod Example
