@@ -1,1 +1,1 @@
-// Theorems over the calls of `transfers`, no code: the packet rules (`packet-rules`, said in `specs/PacketRules.antt`), and 10 exactly where all 15 pipes are open (`ten-exactly`, `specs/AllOpen.antt`).
+// Theorems over the calls of `transfers`, no code: the packet rules (`specs/PacketRules.antt`), and what every call leaves alone and hands back (`HandsBack`, `PipeStates`, `Stores`, `AllOpen`).
