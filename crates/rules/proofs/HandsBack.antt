@@ -71,7 +71,7 @@ use Rattle.transfers.specs.Detect.{statusAt, statusOf, sameStatus, detectingIf,
 use Rattle.transfers.proofs.Statuses.{same-status, other-status}
 use Rattle.transfers.proofs.Untouched.{open-refused, close-refused, poll-refused, detect-refused}
 use Rattle.rules.specs.Received.{quiet}
-use Rattle.rules.specs.HandsBack.{LeavesAlone, HandsOn, noneArmed, endsTransfer, hasActed, BeginUntouched, StepUntouched, Refuses, kindToggle, cameWith, KeepsToggle, Frees, clearsStatus, enablesWaiting, StepWrites, handedOutOf, lengthOut, Polls, atSpeed, statusShown, clearsBuffers, HandsBack}
+use Rattle.rules.specs.HandsBack.{LeavesAlone, HandsOn, noneArmed, endsTransfer, hasActed, BeginUntouched, StepUntouched, RefusedUntouched, kindToggle, cameWith, KeepsToggle, Frees, clearsStatus, enablesWaiting, StepWrites, areaBytes, lengthOut, PollHandsOut, atSpeed, statusShown, clearsBuffers, HandsBack}
 
 leaves-alone : LeavesAlone
 leaves-alone = record {
@@ -339,7 +339,7 @@ irq-refused ints status log n = go (logFits log)
     go false e = refl
     go true e = absurd (let z : _≡_ {A = ℕ} 0 1 = cc in omega arith)
 
-refuses-all : Refuses
+refuses-all : RefusedUntouched
 refuses-all = record {
   beginControl = control-refused;
   beginBulkIn = bulk-in-refused;
@@ -432,19 +432,19 @@ cancel-frees (Busy r) e = go (eitherServes r) e
     go false e = absurd (let z : _≡_ {A = ℕ} 0 1 = cc in omega arith)
 
 frees-all : Frees
-frees-all = record { done = done-frees; failed = failed-frees; cancel = cancel-frees }
+frees-all = record { afterDone = done-frees; afterNumber = failed-frees; afterCancel = cancel-frees }
 
 -- ---- a step's first write
 
-Quiet : Transfer → List ℕ → List ℕ → Outcome → Type 0
-Quiet t buf m o =
+QuietStep : Transfer → List ℕ → List ℕ → Outcome → Type 0
+QuietStep t buf m o =
     (stepReply (o .answer) ≡ result (waiting false)) × (o .next ≡ t) × (o .armed ≡ noneArmed) × (o .writes ≡ clearsStatus ∷ enablesWaiting ∷ []) × (o .memory ≡ m) × (o .buffer ≡ buf)
 
-acts-quiet : (x : Request) (st : Stage) (s : Sample) (buf m : List ℕ) → quiet s ≡ true → Quiet (Busy (record { request = x; stage = st })) buf m (acts x st s buf m)
-unfolding acts classify Quiet
+acts-quiet : (x : Request) (st : Stage) (s : Sample) (buf m : List ℕ) → quiet s ≡ true → QuietStep (Busy (record { request = x; stage = st })) buf m (acts x st s buf m)
+unfolding acts classify QuietStep
 acts-quiet x st s buf m = go (quiet s)
   where
-    go : (z : Bool) → z ≡ true → Quiet (Busy (record { request = x; stage = st })) buf m (polls (cond z Pending (Ready (cond (bit 18 (s .status)) Complete (firstOf (s .status) errors)))) x st (s .buffers) buf m)
+    go : (z : Bool) → z ≡ true → QuietStep (Busy (record { request = x; stage = st })) buf m (polls (cond z Pending (Ready (cond (bit 18 (s .status)) Complete (firstOf (s .status) errors)))) x st (s .buffers) buf m)
     go true e = (refl, refl, refl, refl, refl, refl)
     go false e = absurd (true≢false (sym e))
 
@@ -457,11 +457,11 @@ acts-first x st s buf m = go (quiet s)
     go false = refl
 
 quietly : (filling : Bool) (t : Transfer) (s : Sample) (buf m log : List ℕ)
-    → hasActed (stepReply (stepOf filling t s buf m log .answer)) ≡ true → quiet s ≡ true → Quiet t buf m (stepOf filling t s buf m log)
+    → hasActed (stepReply (stepOf filling t s buf m log .answer)) ≡ true → quiet s ≡ true → QuietStep t buf m (stepOf filling t s buf m log)
 quietly filling t s buf m log =
-    by-step (λ (o : Outcome). hasActed (stepReply (o .answer)) ≡ true → quiet s ≡ true → Quiet t buf m o) filling t s buf m log
+    by-step (λ (o : Outcome). hasActed (stepReply (o .answer)) ≡ true → quiet s ≡ true → QuietStep t buf m o) filling t s buf m log
     (λ a q. absurd (true≢false (sym a))) (λ a q. absurd (true≢false (sym a)))
-    (λ r e a q. subst (λ (u : Transfer). Quiet u buf m (acts (r .request) (r .stage) s buf m)) (sym e) (acts-quiet (r .request) (r .stage) s buf m q))
+    (λ r e a q. subst (λ (u : Transfer). QuietStep u buf m (acts (r .request) (r .stage) s buf m)) (sym e) (acts-quiet (r .request) (r .stage) s buf m q))
 
 first-write : (filling : Bool) (t : Transfer) (s : Sample) (buf m log : List ℕ)
     → hasActed (stepReply (stepOf filling t s buf m log .answer)) ≡ true → take 1 (stepOf filling t s buf m log .writes) ≡ clearsStatus ∷ []
@@ -470,14 +470,14 @@ first-write filling t s buf m log =
     (λ a. absurd (true≢false (sym a))) (λ a. absurd (true≢false (sym a))) (λ r e a. acts-first (r .request) (r .stage) s buf m)
 
 step-writes : StepWrites
-unfolding Quiet
+unfolding QuietStep
 step-writes = record { quietly = quietly; first = first-write }
 
 -- ---- poll
 
 packet-is : (s : PipeSample) (pm : List ℕ) (n : ℕ)
     → _≡_ {A = InterruptPacket} (packetOf n s pm)
-    (record { address = s .address % 0x80; endpoint = s .address / 0x1_0000 % 0x10; size = lengthOut s; «data» = handedOutOf pm n (lengthOut s) })
+    (record { address = s .address % 0x80; endpoint = s .address / 0x1_0000 % 0x10; size = lengthOut s; «data» = areaBytes pm n (lengthOut s) })
 unfolding packetData
 packet-is s pm n = rw (div-one (s .address), div-one (s .buffer))
 
@@ -518,7 +518,7 @@ poll-waits d n s pm log = go (lentFits pm log) (indexOpen (d .pipes .opened) n) 
     go true (SomeIndex at) false e = (refl, refl)
     go true (SomeIndex at) true e = absurd (let z : _≡_ {A = ℕ} 0 1 = cc in omega arith)
 
-polls-all : Polls
+polls-all : PollHandsOut
 polls-all = record { packets = λ d n s pm log e. poll-packet d n s pm log e ∙ packet-is s pm (n .0); zeros = poll-zeros; waits = poll-waits }
 
 -- ---- detection and the interrupt routine
@@ -528,8 +528,8 @@ at-speed zero = refl
 at-speed (suc zero) = refl
 at-speed (suc (suc n)) = refl
 
-shown : (sie : ℕ) → statusOf sie ≡ statusShown sie
-shown sie = at-speed (sie / 0x100 % 4)
+status-shown : (sie : ℕ) → statusOf sie ≡ statusShown sie
+status-shown sie = at-speed (sie / 0x100 % 4)
 
 detect-same : (d : Driver) (sie : ℕ) (log : List ℕ) → 192 ≤ length log → statusShown sie ≡ d .last
     → (detectReply (detecting d sie log .answer) ≡ result unchanged) × (detecting d sie log .next ≡ d) × (detecting d sie log .writes ≡ wr 0x5011_0090 1 1 ∷ [])
@@ -541,7 +541,7 @@ detect-same d sie log fits e = go (logFits log) (sameStatus (statusOf sie) (d .l
         (detectReply (o .answer) ≡ result unchanged) × (withLast d o .next ≡ d) × (o .writes ≡ wr 0x5011_0090 1 1 ∷ [])
     go false v h q = absurd (true≢false (sym h))
     go true true h q = (refl, refl, refl)
-    go true false h q = absurd (other-status (statusOf sie) (d .last) q (shown sie ∙ e))
+    go true false h q = absurd (other-status (statusOf sie) (d .last) q (status-shown sie ∙ e))
 
 detect-other : (d : Driver) (sie : ℕ) (log : List ℕ) → 192 ≤ length log → (statusShown sie ≡ d .last → ⊥)
     → (detectReply (detecting d sie log .answer) ≡ result (changed (statusShown sie))) × (detecting d sie log .next .last ≡ statusShown sie)
@@ -553,8 +553,8 @@ detect-other d sie log fits e = go (logFits log) (sameStatus (statusOf sie) (d .
         → let o = detectingIf l v (d .last) (statusOf sie) in
         (detectReply (o .answer) ≡ result (changed (statusShown sie))) × (o .next ≡ statusShown sie) × (o .writes ≡ wr 0x5011_0090 1 1 ∷ [])
     go false v h q = absurd (true≢false (sym h))
-    go true true h q = absurd (e (sym (shown sie) ∙ same-status (statusOf sie) (d .last) q))
-    go true false h q = (ap (λ (s : DeviceStatus). result (changed s)) (shown sie), shown sie, refl)
+    go true true h q = absurd (e (sym (status-shown sie) ∙ same-status (statusOf sie) (d .last) q))
+    go true false h q = (ap (λ (s : DeviceStatus). result (changed s)) (status-shown sie), status-shown sie, refl)
 
 clears : (v : ℕ) → v < 2 → clearWrites (eqb v 1) ≡ clearsBuffers v
 clears zero h = refl

@@ -89,7 +89,7 @@ pub record StepUntouched (d : Driver) (o : Outcome) (buf m : List ℕ) : Type 0 
   pub buffer : o .buffer ≡ buf
 
 -- Every call that answers a number; of a step's numbers those that don't end the transfer, which are 15 and 16.
-pub record Refuses : Type 0 where
+pub record RefusedUntouched : Type 0 where
   pub beginControl : (d : Driver) (a : ℕ) (x : TransferExtras) (p : ℕ) (s : SetupPacket) (ph : DataPhase) (buf m log : List ℕ) (n : ℕ)
       → let o = beginControlOf (d .transfer) a x p s ph buf m log in beginReply (o .answer) ≡ number n → BeginUntouched d o m
   pub beginBulkIn : (d : Driver) (a e p : ℕ) (k : TransferType) (b : Bool) (buf m log : List ℕ) (n : ℕ)
@@ -141,11 +141,11 @@ pub record KeepsToggle : Type 0 where
 
 -- "a transfer ended by answers 1 to 7 or 9 frees the control pipe": so do done and a cancel.
 pub record Frees : Type 0 where
-  pub done : (filling : Bool) (t : Transfer) (s : Sample) (buf m log : List ℕ) (count : ℕ)
+  pub afterDone : (filling : Bool) (t : Transfer) (s : Sample) (buf m log : List ℕ) (count : ℕ)
       → let o = stepOf filling t s buf m log in stepReply (o .answer) ≡ result (done count) → o .next ≡ Idle
-  pub failed : (filling : Bool) (t : Transfer) (s : Sample) (buf m log : List ℕ) (n : ℕ)
+  pub afterNumber : (filling : Bool) (t : Transfer) (s : Sample) (buf m log : List ℕ) (n : ℕ)
       → let o = stepOf filling t s buf m log in stepReply (o .answer) ≡ number n → endsTransfer n ≡ true → o .next ≡ Idle
-  pub cancel : (t : Transfer) → cancelReply (cancelOf t .answer) ≡ result tt → cancelOf t .next ≡ Idle
+  pub afterCancel : (t : Transfer) → cancelReply (cancelOf t .answer) ≡ result tt → cancelOf t .next ≡ Idle
 
 -- ---- a step's first write
 
@@ -170,19 +170,19 @@ pub record StepWrites : Type 0 where
 -- ---- poll
 
 -- "Buffer of pipe n at 0x200 + 128 × n .., at most 64 bytes handed out": k bytes, then zeros.
-abbrev pub handedOutOf : List ℕ → ℕ → ℕ → List ℕ
-handedOutOf pm n k = take k (drop (0x200 + 128 * n) pm) ++ replicate (64 - k) 0
+abbrev pub areaBytes : List ℕ → ℕ → ℕ → List ℕ
+areaBytes pm n k = take k (drop (0x200 + 128 * n) pm) ++ replicate (64 - k) 0
 
 -- LENGTH, bits 0 to 9 of EP_BUFFER_CONTROL, 64 at most.
 abbrev pub lengthOut : PipeSample → ℕ
 lengthOut s = min (s .buffer % 0x400) 64
 
 -- What a poll hands out, and what a waiting one writes.
-pub record Polls : Type 0 where
+pub record PollHandsOut : Type 0 where
   -- Address and endpoint are bits 0 to 6 and 16 to 19 of HOST_ADDR_ENDP.
   pub packets : (d : Driver) (n : PipeNumber) (s : PipeSample) (pm log : List ℕ)
       → let o = polling d n s pm log in pollReply (o .answer) ≡ result packet
-      → o .packet ≡ record { address = s .address % 0x80; endpoint = s .address / 0x1_0000 % 0x10; size = lengthOut s; «data» = handedOutOf pm (n .0) (lengthOut s) }
+      → o .packet ≡ record { address = s .address % 0x80; endpoint = s .address / 0x1_0000 % 0x10; size = lengthOut s; «data» = areaBytes pm (n .0) (lengthOut s) }
   -- No packet: all zeros.
   pub zeros : (d : Driver) (n : PipeNumber) (s : PipeSample) (pm log : List ℕ)
       → let o = polling d n s pm log in (pollReply (o .answer) ≡ result packet → ⊥) → o .packet ≡ record { address = 0; endpoint = 0; size = 0; «data» = replicate 64 0 }
@@ -216,17 +216,17 @@ clearsBuffers zero = []
 clearsBuffers (suc n) = wr 0x5011_0058 0xFFFF_FFFF 0xFFFF_FFFC ∷ []
 
 -- Then every interrupt that INTS shows is disabled.
-pub record Irqs : Type 0 where
+pub record IrqWrites : Type 0 where
   pub writes : (ints status : ℕ) (log : List ℕ) → 192 ≤ length log → waking ints status log .writes ≡ clearsBuffers (ints / 0x10 % 2) ++ (wr 0x5011_0090 ints 0 ∷ [])
 
 -- The whole claim.
 pub record HandsBack : Type 0 where
   pub leaves : LeavesAlone
   pub handsOn : HandsOn
-  pub refuses : Refuses
+  pub refuses : RefusedUntouched
   pub toggle : KeepsToggle
   pub frees : Frees
   pub steps : StepWrites
-  pub polls : Polls
+  pub polls : PollHandsOut
   pub detects : Detects
-  pub irqs : Irqs
+  pub irqs : IrqWrites
