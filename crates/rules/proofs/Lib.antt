@@ -15,6 +15,7 @@ pub mod Received
 pub mod Free
 pub mod Outside
 pub mod Writes
+pub mod ControlStages
 pub mod PacketRules
 pub mod AllOpen
 pub mod HandsBack

@@ -4,6 +4,7 @@ pub mod Datasheet
 pub mod Received
 pub mod Armed
 pub mod Writes
+pub mod ControlStages
 pub mod PacketRules
 pub mod AllOpen
 pub mod HandsBack
