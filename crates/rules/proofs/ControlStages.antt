@@ -9,12 +9,10 @@ use lib.ListN.{length}
 use borrow.Author.Tests.{leb-true}
 use Rattle.cutting.specs.declared.transfer_type.TransferType.the-variants.{FixedSize}
 use Rattle.cutting.specs.declared.packetiser.Arm.{Arm}
-use Rattle.cutting.specs.declared.packetiser.OptionArm.{OptionArm}
-use Rattle.cutting.specs.declared.packetiser.OptionArm.the-variants.{Some as SomeArm, None as NoArm}
 use Rattle.cutting.specs.declared.packetiser.InPacketiser.{InPacketiser}
 use Rattle.cutting.specs.declared.packetiser.OutCounters.{OutCounters}
 use Rattle.cutting.specs.declared.depacketiser.InDepacketiser.{InDepacketiser}
-use Rattle.cutting.specs.Counters.{inStart, inNext, outStart, outNext}
+use Rattle.cutting.specs.Counters.{inStart, outStart}
 use Rattle.transfers.specs.declared.host_controller.UsbError.{UsbError}
 use Rattle.transfers.specs.declared.host_controller.DataPhase.{DataPhase}
 use Rattle.transfers.specs.declared.host_controller.DataPhase.the-variants.{In as phaseIn, Out as phaseOut, None as phaseNone}
@@ -43,7 +41,7 @@ use Rattle.transfers.specs.Log.{Write, wr, masked}
 use Rattle.transfers.specs.Memory.{lentFits}
 use Rattle.transfers.specs.Sample.{classify}
 use Rattle.transfers.specs.Writes.{headWrites, armWrites, enableWrites, goWrites, polled, quiets, completes}
-use Rattle.transfers.specs.Arming.{mayArm, inArmed, inArmIf, inArm, inArmTwo, outArmed, outArmIf, outArm, outArmTwo}
+use Rattle.transfers.specs.Arming.{inArmTwo, outArmTwo}
 use Rattle.transfers.specs.Retiring.{InRetiring, inRetireOne}
 use Rattle.transfers.specs.State.{targetOf, stageLength, addressGood, sizeGood, kindGood, requestGood, stageGood, sound, controlOf}
 use Rattle.transfers.specs.Outcome.{Outcome, after, startIn, startOut, entersIn, entersOut}
@@ -59,6 +57,7 @@ use Rattle.rules.proofs.Lists.{every-append}
 use Rattle.rules.proofs.Retired.{no}
 use Rattle.rules.proofs.InStage.{by-poll}
 use Rattle.rules.proofs.Steps.{accepted}
+use Rattle.rules.proofs.Decoded.{in-two-every, out-two-every}
 
 -- ---- registers that writes leave alone
 
@@ -114,39 +113,11 @@ module _ (q : ℕ) (o : Other q) where
   quiets-leaves : Leaves q quiets
   quiets-leaves = (o .buffs, (o .inte, tt))
 
-  in-armed-leaves : (x : OptionArm) (c : InPacketiser) (k : ℕ) → Leaves q (inArmed x c k .writes)
-  in-armed-leaves NoArm c k = tt
-  in-armed-leaves (SomeArm a) c k = arm-leaves false a
-
-  in-arm-leaves : (w : ℕ) (c : InPacketiser) (k : ℕ) → Leaves q (inArm w c k .writes)
-  unfolding inArm
-  in-arm-leaves w c k = by (mayArm w k (c .slot))
-    where
-      by : (b : Bool) → Leaves q (inArmIf b c k .writes)
-      by false = tt
-      by true = in-armed-leaves (inNext c .arm) (inNext c .rest) k
-
   in-two-leaves : (w : ℕ) (c : InPacketiser) (k : ℕ) → Leaves q (inArmTwo w c k .writes)
-  unfolding inArmTwo
-  in-two-leaves w c k = let g = inArm w c k in then (g .writes) (inArm w (g .packets) (g .inflight) .writes) (in-arm-leaves w c k) (in-arm-leaves w (g .packets) (g .inflight))
-
-  out-armed-leaves : (x : OptionArm) (c : OutCounters) (k off : ℕ) (buf m : List ℕ) → Leaves q (outArmed x c k off buf m .writes)
-  out-armed-leaves NoArm c k off buf m = tt
-  out-armed-leaves (SomeArm a) c k off buf m = arm-leaves true a
-
-  out-arm-leaves : (w : ℕ) (c : OutCounters) (k : ℕ) (buf m : List ℕ) → Leaves q (outArm w c k buf m .writes)
-  unfolding outArm
-  out-arm-leaves w c k buf m = by (mayArm w k (c .slot))
-    where
-      by : (b : Bool) → Leaves q (outArmIf b c k buf m .writes)
-      by false = tt
-      by true = out-armed-leaves (outNext c .arm) (outNext c .rest) k (c .offset) buf m
+  in-two-leaves w c k = in-two-every (λ r m v. eqb q r ≡ false) arm-leaves w c k
 
   out-two-leaves : (w : ℕ) (c : OutCounters) (k : ℕ) (buf m : List ℕ) → Leaves q (outArmTwo w c k buf m .writes)
-  unfolding outArmTwo
-  out-two-leaves w c k buf m =
-      let g = outArm w c k buf m in
-      then (g .writes) (outArm w (g .packets) (g .inflight) buf (g .memory) .writes) (out-arm-leaves w c k buf m) (out-arm-leaves w (g .packets) (g .inflight) buf (g .memory))
+  out-two-leaves w c k buf m = out-two-every (λ r m v. eqb q r ≡ false) arm-leaves w c k buf m
 
   -- ---- a stage that goes on
 

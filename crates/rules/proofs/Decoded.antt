@@ -89,7 +89,7 @@ module _ (P : ℕ → ℕ → ℕ → Type 0) (arm : (f : Bool) (a : Arm) → Ev
       by false = tt
       by true = in-armed-every (inNext c .arm) (inNext c .rest) k
 
-  in-two-every : (w : ℕ) (c : InPacketiser) (k : ℕ) → Every P (inArmTwo w c k .writes)
+  pub in-two-every : (w : ℕ) (c : InPacketiser) (k : ℕ) → Every P (inArmTwo w c k .writes)
   unfolding inArmTwo
   in-two-every w c k = let g = inArm w c k in every-append P (g .writes) (inArm w (g .packets) (g .inflight) .writes) (in-arm-every w c k) (in-arm-every w (g .packets) (g .inflight))
 
@@ -105,7 +105,7 @@ module _ (P : ℕ → ℕ → ℕ → Type 0) (arm : (f : Bool) (a : Arm) → Ev
       by false = tt
       by true = out-armed-every (outNext c .arm) (outNext c .rest) k (c .offset) buf m
 
-  out-two-every : (w : ℕ) (c : OutCounters) (k : ℕ) (buf m : List ℕ) → Every P (outArmTwo w c k buf m .writes)
+  pub out-two-every : (w : ℕ) (c : OutCounters) (k : ℕ) (buf m : List ℕ) → Every P (outArmTwo w c k buf m .writes)
   unfolding outArmTwo
   out-two-every w c k buf m =
       let g = outArm w c k buf m in
