@@ -5,6 +5,8 @@ use Rattle.rules.specs.Datasheet.{DatasheetRules}
 use Rattle.rules.specs.Received.{Receives}
 use Rattle.rules.specs.Armed.{ArmsFree, ArmsAsCut}
 use Rattle.rules.specs.Writes.{CallsWrite}
+use Rattle.rules.specs.ControlStages.{ControlStages}
+use Rattle.rules.specs.OutToggle.{OutToggles}
 
 -- The whole claim.
 pub record PacketRules : Type 0 where
@@ -20,5 +22,9 @@ pub record PacketRules : Type 0 where
   pub arms : ArmsAsCut
   -- A step arms only slots that its sample shows free.
   pub free : ArmsFree
+  -- A control goes from stage to stage: for whom, which way and how long.
+  pub stages : ControlStages
+  -- From a bulk OUT begin to its done: the toggle.
+  pub toggles : OutToggles
   -- Every call's writes: how many, to which registers, and zero outside their masks.
   pub writes : CallsWrite
