@@ -16,7 +16,6 @@ pub mod Free
 pub mod Outside
 pub mod Writes
 pub mod ControlStages
-pub mod OutToggle
 pub mod PacketRules
 pub mod AllOpen
 pub mod HandsBack

@@ -5,7 +5,6 @@ pub mod Received
 pub mod Armed
 pub mod Writes
 pub mod ControlStages
-pub mod OutToggle
 pub mod PacketRules
 pub mod AllOpen
 pub mod HandsBack
