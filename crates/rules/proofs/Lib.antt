@@ -21,4 +21,5 @@ pub mod AllOpen
 pub mod HandsBack
 pub mod PipeStates
 pub mod Stores
+pub mod Sends
 pub mod Example

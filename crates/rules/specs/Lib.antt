@@ -10,5 +10,6 @@ pub mod AllOpen
 pub mod HandsBack
 pub mod PipeStates
 pub mod Stores
+pub mod Sends
 -- A reading aid: one transfer, computed.
 pub mod Example
