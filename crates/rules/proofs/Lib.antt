@@ -22,4 +22,5 @@ pub mod HandsBack
 pub mod PipeStates
 pub mod Stores
 pub mod Sends
+pub mod KeepsBytes
 pub mod Example

@@ -11,5 +11,6 @@ pub mod HandsBack
 pub mod PipeStates
 pub mod Stores
 pub mod Sends
+pub mod KeepsBytes
 -- A reading aid: one transfer, computed.
 pub mod Example

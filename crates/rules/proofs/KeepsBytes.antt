@@ -1,0 +1,480 @@
+-- The caller's buffer at a step's numbers. Assumes nothing.
+use mathlib.Core.Path.{_≡_, refl, sym, ap, ap₂, _∙_, subst}
+use mathlib.Core.Bool.{Bool, true, false, cond, _&&_, true≢false}
+use mathlib.Core.Logic.{_⊎_, inl, inr}
+use mathlib.Core.List.{List, [], _∷_, _++_, append-nil}
+use Prim.Native.Nat.{ℕ, _+_, _≤_, min}
+use native.Mathlib.Nat.{add-zero}
+use native.Mathlib.Omega.{arith}
+use borrow.Author.Tests.{eqb-true, eqb-false, ltb-false}
+use lib.Bits.{bitAnd}
+use lib.Dec.{eqb, ltb}
+use lib.ListN.{length, take, drop, length-append, length-take, length-drop, take-append-drop}
+use lib.Seq.{sets, sets-eq, length-sets, length-take-le, take-take, take-at, take-append-le}
+use Rattle.cutting.specs.declared.depacketiser.InDepacketiser.{InDepacketiser}
+use Rattle.cutting.specs.Retire.{inRetire}
+use Rattle.cutting.proofs.Retiring.{retires, retire-fits}
+use Rattle.transfers.specs.declared.host_controller.UsbError.{UsbError}
+use Rattle.transfers.specs.declared.host_controller.UsbError.the-variants.{Stall, Timeout, Overflow, BitStuffError, CrcError, DataSeqError}
+use Rattle.transfers.specs.declared.host_controller.DataPhase.{DataPhase}
+use Rattle.transfers.specs.declared.host_controller.DataPhase.the-variants.{In as phaseIn, Out as phaseOut, None as phaseNone}
+use Rattle.transfers.specs.declared.answers.StepAnswer.{StepAnswer}
+use Rattle.transfers.specs.declared.answers.StepAnswer.the-variants.{Waiting, Done, Refused}
+use Rattle.transfers.specs.declared.refusal.Refusal.the-variants.{LentMemory, State}
+use Rattle.transfers.specs.declared.sample.Sample.{Sample}
+use Rattle.transfers.specs.declared.sample.Poll.{Poll}
+use Rattle.transfers.specs.declared.sample.Poll.the-variants.{Pending, Ready}
+use Rattle.transfers.specs.declared.sample.Found.{Found}
+use Rattle.transfers.specs.declared.sample.Found.the-variants.{Complete, Failed, Neither}
+use Rattle.transfers.specs.declared.driver.Transfer.{Transfer}
+use Rattle.transfers.specs.declared.driver.Transfer.the-variants.{Idle, Busy}
+use Rattle.transfers.specs.declared.driver.Run.{Run}
+use Rattle.transfers.specs.declared.driver.Request.{Request}
+use Rattle.transfers.specs.declared.driver.Kind.{Kind}
+use Rattle.transfers.specs.declared.driver.Kind.the-variants.{Control as control, Bulk as bulk}
+use Rattle.transfers.specs.declared.driver.Stage.{Stage}
+use Rattle.transfers.specs.declared.driver.Stage.the-variants.{Setup as setupStage, In as inStage, Out as outStage}
+use Rattle.transfers.specs.declared.driver.InStage.{InStage}
+use Rattle.transfers.specs.declared.driver.OutStage.{OutStage}
+use Rattle.transfers.specs.Memory.{lentFits, slotAddress}
+use Rattle.transfers.specs.Refusal.{errorNumber, numberOf}
+use Rattle.transfers.specs.Registers.{bit}
+use Rattle.transfers.specs.Reply.{Reply, result, number, StepResult, stepReply}
+use Rattle.transfers.specs.Sample.{errors, firstOf, classify, full, lengthIn}
+use Rattle.transfers.specs.Retiring.{InRetiring, inTaken, inRetireIf, inRetireOne}
+use Rattle.transfers.specs.Ready.{Within, InIsStatus}
+use Rattle.transfers.specs.State.{controlOf}
+use Rattle.transfers.specs.Outcome.{Outcome}
+use Rattle.transfers.specs.Step.{setupDone, setupStep, inReceived, inDone, inSecondDone, inFirstDone, inComplete, inSecondMoved, inFirstMoved, inRearm, inMove, inStep, outRetireTwo, outControlDone, outDone, outComplete, outMove, outStep, lent, keeping, stageStep, polls, acts}
+use Rattle.transfers.specs.Calls.{refuses, stepIf, mayStep, stepLent, stepOf}
+use Rattle.transfers.proofs.OpenPipes.{lent-sizes}
+use Rattle.transfers.proofs.Readiness.{both, sound-within, served-status, may-parts}
+use Rattle.rules.specs.Fields.{readBufferControl}
+use Rattle.rules.specs.Received.{StepCall, packetAt, stepIn}
+use Rattle.rules.specs.KeepsBytes.{storedAt, keptBy, keptAtNine, isInStage, receiving, inAt, KeepsBytes}
+
+no : {A : Type 0} → true ≡ false → A
+no e = absurd (true≢false e)
+
+-- ---- a step that acts, by its answer: a number other than 9 with the buffer as lent, or 9
+
+abbrev Keeps : List ℕ → (List ℕ → Type 0) → StepAnswer → List ℕ → Type 0
+Keeps buf Nine (Waiting again) b = Unit {0}
+Keeps buf Nine (Done count) b = Unit {0}
+Keeps buf Nine (Refused why) b = ((b ≡ buf) × (eqb (numberOf why) 9 ≡ false)) ⊎ (Nine b × (eqb (numberOf why) 9 ≡ true))
+
+abbrev KeepsOf : List ℕ → (List ℕ → Type 0) → Outcome → Type 0
+KeepsOf buf Nine o = Keeps buf Nine (o .answer) (o .buffer)
+
+-- The first slot, and the second after it.
+abbrev firstOne : InStage → ℕ → List ℕ → List ℕ → InRetiring
+firstOne st w buf m = inRetireOne w (inReceived st) (st .inflight) buf m
+
+abbrev secondOne : ℕ → InRetiring → List ℕ → InRetiring
+secondOne w g m = inRetireOne w (g .packets) (g .inflight) (g .buffer) m
+
+-- One of the two is long.
+abbrev Long : InStage → ℕ → List ℕ → List ℕ → Type 0
+Long st w buf m = let g = firstOne st w buf m in (g .long ≡ true) ⊎ ((g .long ≡ false) × (secondOne w g m .long ≡ true))
+
+-- The long packet isn't copied.
+long-stays : (w : ℕ) (c : InDepacketiser) (k : ℕ) (buf m : List ℕ) → inRetireOne w c k buf m .long ≡ true → inRetireOne w c k buf m .buffer ≡ buf
+unfolding inRetireOne
+long-stays w c k buf m = go (ltb 0 k && full w (c .parity)) (ltb 64 (lengthIn w (c .parity)))
+  where
+    taken : (l : Bool) → inTaken l (lengthIn w (c .parity)) c k buf m .long ≡ true → inTaken l (lengthIn w (c .parity)) c k buf m .buffer ≡ buf
+    taken true e = refl
+    taken false e = no (sym e)
+
+    go : (t l : Bool) → inRetireIf t (lengthIn w (c .parity)) c k buf m .long ≡ true → inRetireIf t (lengthIn w (c .parity)) c k buf m .buffer ≡ buf
+    go false l e = refl
+    go true l e = taken (ltb 64 (lengthIn w (c .parity))) e
+
+-- At 9: which slot is long, and the buffer after the first.
+abbrev Held : InStage → ℕ → List ℕ → List ℕ → List ℕ → Type 0
+Held st w buf m b = Long st w buf m × (b ≡ firstOne st w buf m .buffer)
+
+in-done-keeps : (N : List ℕ → Type 0) (k : Kind) (status : Bool) (x : Request) (d : InDepacketiser) (l m buf : List ℕ) → KeepsOf l N (inDone k status x d m buf)
+in-done-keeps N (control c) true x d l m buf = tt
+in-done-keeps N (control c) false x d l m buf = tt
+in-done-keeps N (bulk b) status x d l m buf = tt
+
+in-complete-keeps : (x : Request) (st : InStage) (w : ℕ) (buf m : List ℕ) → KeepsOf buf (Held st w buf m) (inComplete x st w buf m)
+unfolding inComplete
+in-complete-keeps x st w buf m = go (g .long) refl
+  where
+    g : InRetiring
+    g = firstOne st w buf m
+
+    h : InRetiring
+    h = secondOne w g m
+
+    second : g .long ≡ false → (b : Bool) → h .long ≡ b → KeepsOf buf (Held st w buf m) (inSecondDone b h x (st .status) m)
+    second f true e = inr ((inr (f, e), long-stays w (g .packets) (g .inflight) (g .buffer) m e), refl)
+    second f false e = in-done-keeps (Held st w buf m) (x .kind) (st .status) x (h .packets) buf m (h .buffer)
+
+    go : (b : Bool) → g .long ≡ b → KeepsOf buf (Held st w buf m) (inFirstDone b g w x (st .status) m)
+    go true e = inr ((inl e, refl), refl)
+    go false e = second e (h .long) refl
+
+in-move-keeps : (x : Request) (st : InStage) (w : ℕ) (buf m : List ℕ) → KeepsOf buf (Held st w buf m) (inMove x st w buf m)
+unfolding inMove inRearm
+in-move-keeps x st w buf m = go (g .long) refl
+  where
+    g : InRetiring
+    g = firstOne st w buf m
+
+    h : InRetiring
+    h = secondOne w g m
+
+    second : g .long ≡ false → (b : Bool) → h .long ≡ b → KeepsOf buf (Held st w buf m) (inSecondMoved b h w x st m)
+    second f true e = inr ((inr (f, e), long-stays w (g .packets) (g .inflight) (g .buffer) m e), refl)
+    second f false e = tt
+
+    go : (b : Bool) → g .long ≡ b → KeepsOf buf (Held st w buf m) (inFirstMoved b g w x st m)
+    go true e = inr ((inl e, refl), refl)
+    go false e = second e (h .long) refl
+
+-- ---- by the stage
+
+-- In a status stage the caller's buffer stays.
+abbrev HeldBy : Bool → InStage → ℕ → List ℕ → List ℕ → List ℕ → Type 0
+HeldBy true st w buf m b = Long st w [] m × (b ≡ buf)
+HeldBy false st w buf m b = Held st w buf m b
+
+abbrev Nine : Stage → ℕ → List ℕ → List ℕ → List ℕ → Type 0
+Nine setupStage w buf m b = ⊥
+Nine (inStage st) w buf m b = HeldBy (st .status) st w buf m b
+Nine (outStage st) w buf m b = ⊥
+
+in-keeping : (s : Bool) (st : InStage) (w : ℕ) (buf m : List ℕ) (o : Outcome) → KeepsOf (lent s buf) (Held st w (lent s buf) m) o → KeepsOf buf (HeldBy s st w buf m) (keeping s buf o)
+in-keeping false st w buf m o h = h
+in-keeping true st w buf m o h = by (o .answer) h
+  where
+    by : (a : StepAnswer) → Keeps [] (Held st w [] m) a (o .buffer) → Keeps buf (HeldBy true st w buf m) a buf
+    by (Waiting again) h = tt
+    by (Done count) h = tt
+    by (Refused why) (inl e) = inl (refl, e .1)
+    by (Refused why) (inr e) = inr ((e .0 .0, refl), e .1)
+
+out-keeping : (s : Bool) (buf : List ℕ) (o : Outcome) → KeepsOf (lent s buf) (λ (b : List ℕ). ⊥) o → KeepsOf buf (λ (b : List ℕ). ⊥) (keeping s buf o)
+out-keeping false buf o h = h
+out-keeping true buf o h = by (o .answer) h
+  where
+    by : (a : StepAnswer) → Keeps [] (λ (b : List ℕ). ⊥) a (o .buffer) → Keeps buf (λ (b : List ℕ). ⊥) a buf
+    by (Waiting again) h = tt
+    by (Done count) h = tt
+    by (Refused why) (inl e) = inl (refl, e .1)
+    by (Refused why) (inr e) = absurd (e .0)
+
+setup-keeps : (N : List ℕ → Type 0) (ph : DataPhase) (short : Bool) (x : Request) (n : ℕ) (buf m : List ℕ) → KeepsOf buf N (setupDone ph short x n buf m)
+setup-keeps N phaseIn true x n buf m = inl (refl, refl)
+setup-keeps N phaseIn false x n buf m = tt
+setup-keeps N phaseOut true x n buf m = inl (refl, refl)
+setup-keeps N phaseOut false x n buf m = tt
+setup-keeps N phaseNone short x n buf m = tt
+
+out-done-keeps : (N : List ℕ → Type 0) (k : Kind) (x : Request) (st : OutStage) (parity : Bool) (l m buf : List ℕ) → KeepsOf l N (outDone k x st parity m buf)
+out-done-keeps N (control c) x st parity l m buf = go (st .status)
+  where
+    go : (b : Bool) → KeepsOf l N (outControlDone b x (st .received) m buf)
+    go true = tt
+    go false = tt
+out-done-keeps N (bulk b) x st parity l m buf = tt
+
+complete-keeps : (x : Request) (st : Stage) (w : ℕ) (buf m : List ℕ) → KeepsOf buf (Nine st w buf m) (stageStep Complete x st w buf m)
+unfolding setupStep inStep outStep outComplete
+complete-keeps x setupStage w buf m = let c = controlOf (x .kind) in setup-keeps (λ (b : List ℕ). ⊥) (c .phase) (ltb (x .length) (c .wLength)) x (c .wLength) buf m
+complete-keeps x (inStage st) w buf m =
+    in-keeping (st .status) st w buf m (inStep Complete x st w (lent (st .status) buf) m) (in-complete-keeps x st w (lent (st .status) buf) m)
+complete-keeps x (outStage st) w buf m =
+    out-keeping (st .status) buf (outStep Complete x st w (lent (st .status) buf) m)
+    (out-done-keeps (λ (b : List ℕ). ⊥) (x .kind) x st (outRetireTwo w (st .retire) (st .inflight) .parity) (lent (st .status) buf) m (lent (st .status) buf))
+
+error-keeps : (e : UsbError) (x : Request) (st : Stage) (w : ℕ) (buf m : List ℕ) → eqb (errorNumber e) 9 ≡ false → KeepsOf buf (Nine st w buf m) (stageStep (Failed e) x st w buf m)
+unfolding setupStep inStep outStep
+error-keeps e x setupStage w buf m h = inl (refl, h)
+error-keeps e x (inStage st) w buf m h = in-keeping (st .status) st w buf m (inStep (Failed e) x st w (lent (st .status) buf) m) (inl (refl, h))
+error-keeps e x (outStage st) w buf m h = out-keeping (st .status) buf (outStep (Failed e) x st w (lent (st .status) buf) m) (inl (refl, h))
+
+goes-on-keeps : (x : Request) (st : Stage) (w : ℕ) (buf m : List ℕ) → KeepsOf buf (Nine st w buf m) (stageStep Neither x st w buf m)
+unfolding setupStep inStep outStep outMove
+goes-on-keeps x setupStage w buf m = tt
+goes-on-keeps x (inStage st) w buf m =
+    in-keeping (st .status) st w buf m (inStep Neither x st w (lent (st .status) buf) m) (in-move-keeps x st w (lent (st .status) buf) m)
+goes-on-keeps x (outStage st) w buf m = out-keeping (st .status) buf (outStep Neither x st w (lent (st .status) buf) m) tt
+
+acts-keeps : (x : Request) (st : Stage) (s : Sample) (buf m : List ℕ) → KeepsOf buf (Nine st (s .buffers) buf m) (acts x st s buf m)
+unfolding acts classify
+acts-keeps x st s buf m = polled (eqb (bitAnd (s .intr) 0x458) 0) (bit 18 (s .status))
+  where
+    w : ℕ
+    w = s .buffers
+
+    error : (a b c d e f : Bool)
+        → KeepsOf buf (Nine st w buf m) (stageStep (cond a (Failed DataSeqError) (cond b (Failed Stall) (cond c (Failed Overflow)
+        (cond d (Failed Timeout) (cond e (Failed BitStuffError) (cond f (Failed CrcError) Neither)))))) x st w buf m)
+    error true b c d e f = error-keeps DataSeqError x st w buf m refl
+    error false true c d e f = error-keeps Stall x st w buf m refl
+    error false false true d e f = error-keeps Overflow x st w buf m refl
+    error false false false true e f = error-keeps Timeout x st w buf m refl
+    error false false false false true f = error-keeps BitStuffError x st w buf m refl
+    error false false false false false true = error-keeps CrcError x st w buf m refl
+    error false false false false false false = goes-on-keeps x st w buf m
+
+    polled : (z c : Bool) → KeepsOf buf (Nine st w buf m) (polls (cond z Pending (Ready (cond c Complete (firstOf (s .status) errors)))) x st w buf m)
+    polled true c = tt
+    polled false true = complete-keeps x st w buf m
+    polled false false = error (bit 31 (s .status)) (bit 29 (s .status)) (bit 26 (s .status)) (bit 27 (s .status)) (bit 25 (s .status)) (bit 24 (s .status))
+
+-- ---- every step: refused with 15 or 16, or one that acts, with what the checks left
+
+by-busy : (P : Outcome → Type 0) (filling : Bool) (r : Run) (s : Sample) (buf m log : List ℕ) → P (refuses (Busy r) LentMemory m buf) → P (refuses (Busy r) State m buf)
+    → (mayStep filling r ≡ true → length buf ≡ r .request .length → lentFits m log ≡ true → P (acts (r .request) (r .stage) s buf m)) → P (stepOf filling (Busy r) s buf m log)
+unfolding stepOf
+by-busy P filling r s buf m log a b c = go (lentFits m log) refl
+  where
+    may : lentFits m log ≡ true → (v n : Bool) → mayStep filling r ≡ v → eqb (length buf) (r .request .length) ≡ n → P (stepIf v n r s buf m)
+    may l false n e f = b
+    may l true false e f = a
+    may l true true e f = c e (eqb-true (length buf) (r .request .length) f) l
+
+    go : (l : Bool) → lentFits m log ≡ l → P (stepLent l filling (Busy r) s buf m)
+    go false e = a
+    go true e = may e (mayStep filling r) (eqb (length buf) (r .request .length)) refl refl
+
+by-idle : (P : Outcome → Type 0) (filling : Bool) (s : Sample) (buf m log : List ℕ) → P (refuses Idle LentMemory m buf) → P (refuses Idle State m buf) → P (stepOf filling Idle s buf m log)
+unfolding stepOf
+by-idle P filling s buf m log a b = go (lentFits m log)
+  where
+    go : (l : Bool) → P (stepLent l filling Idle s buf m)
+    go false = a
+    go true = b
+
+clash : {A : Type 0} {n : ℕ} {r : StepResult} → number n ≡ result r → A
+clash {n = n} {r = r} e = absurd (let z : _≡_ {A = ℕ} 0 1 = cc in omega arith)
+
+number-is : (k n : ℕ) → _≡_ {A = Reply StepResult} (number k) (number n) → k ≡ n
+number-is k n e = cc
+
+other-stays : (buf : List ℕ) (N : List ℕ → Type 0) (a : StepAnswer) (b : List ℕ) (n : ℕ) → Keeps buf N a b → stepReply a ≡ number n → (n ≡ 9 → ⊥) → b ≡ buf
+other-stays buf N (Waiting again) b n k e f = clash (sym e)
+other-stays buf N (Done count) b n k e f = clash (sym e)
+other-stays buf N (Refused why) b n (inl k) e f = k .0
+other-stays buf N (Refused why) b n (inr k) e f = absurd (f (sym (number-is (numberOf why) n e) ∙ eqb-true (numberOf why) 9 (k .1)))
+
+at-nine : (buf : List ℕ) (N : List ℕ → Type 0) (a : StepAnswer) (b : List ℕ) → Keeps buf N a b → stepReply a ≡ number 9 → N b
+at-nine buf N (Waiting again) b k e = clash (sym e)
+at-nine buf N (Done count) b k e = clash (sym e)
+at-nine buf N (Refused why) b (inl k) e = absurd (eqb-false (numberOf why) 9 (k .1) (number-is (numberOf why) 9 e))
+at-nine buf N (Refused why) b (inr k) e = k .0
+
+failed-keeps : (filling : Bool) (t : Transfer) (s : Sample) (buf m log : List ℕ) (n : ℕ)
+    → stepReply (stepOf filling t s buf m log .answer) ≡ number n → (n ≡ 9 → ⊥) → stepOf filling t s buf m log .buffer ≡ buf
+failed-keeps filling Idle s buf m log n =
+    by-idle (λ (o : Outcome). stepReply (o .answer) ≡ number n → (n ≡ 9 → ⊥) → o .buffer ≡ buf) filling s buf m log (λ e f. refl) (λ e f. refl)
+failed-keeps filling (Busy r) s buf m log n =
+    by-busy (λ (o : Outcome). stepReply (o .answer) ≡ number n → (n ≡ 9 → ⊥) → o .buffer ≡ buf) filling r s buf m log (λ e f. refl) (λ e f. refl)
+    (λ v l g. let o = acts (r .request) (r .stage) s buf m in
+    other-stays buf (Nine (r .stage) (s .buffers) buf m) (o .answer) (o .buffer) n (acts-keeps (r .request) (r .stage) s buf m))
+
+-- ---- a step that sends
+
+setup-same : (f : Found) (x : Request) (buf m : List ℕ) → setupStep f x buf m .buffer ≡ buf
+unfolding setupStep
+setup-same Complete x buf m = let c = controlOf (x .kind) in by (c .phase) (ltb (x .length) (c .wLength)) (c .wLength)
+  where
+    by : (ph : DataPhase) (short : Bool) (n : ℕ) → setupDone ph short x n buf m .buffer ≡ buf
+    by phaseIn true n = refl
+    by phaseIn false n = refl
+    by phaseOut true n = refl
+    by phaseOut false n = refl
+    by phaseNone short n = refl
+setup-same (Failed e) x buf m = refl
+setup-same Neither x buf m = refl
+
+out-same : (f : Found) (x : Request) (st : OutStage) (w : ℕ) (buf m : List ℕ) → outStep f x st w buf m .buffer ≡ buf
+unfolding outStep outComplete outMove
+out-same Complete x st w buf m = by (x .kind) (st .status)
+  where
+    ends : (b : Bool) → outControlDone b x (st .received) m buf .buffer ≡ buf
+    ends true = refl
+    ends false = refl
+
+    by : (k : Kind) (b : Bool) → outDone k x st (outRetireTwo w (st .retire) (st .inflight) .parity) m buf .buffer ≡ buf
+    by (control c) b = ends (st .status)
+    by (bulk u) b = refl
+out-same (Failed e) x st w buf m = refl
+out-same Neither x st w buf m = refl
+
+keeping-same : (s : Bool) (buf : List ℕ) (o : Outcome) → o .buffer ≡ lent s buf → keeping s buf o .buffer ≡ buf
+keeping-same true buf o e = refl
+keeping-same false buf o e = e
+
+status-same : (s : Bool) (buf : List ℕ) (o : Outcome) → s ≡ true → keeping s buf o .buffer ≡ buf
+status-same true buf o e = refl
+status-same false buf o e = no (sym e)
+
+stage-same : (f : Found) (x : Request) (st : Stage) (w : ℕ) (buf m : List ℕ) → InIsStatus st → stageStep f x st w buf m .buffer ≡ buf
+stage-same f x setupStage w buf m h = setup-same f x buf m
+stage-same f x (inStage st) w buf m h = status-same (st .status) buf (inStep f x st w (lent (st .status) buf) m) h
+stage-same f x (outStage st) w buf m h = keeping-same (st .status) buf (outStep f x st w (lent (st .status) buf) m) (out-same f x st w (lent (st .status) buf) m)
+
+acts-same : (x : Request) (st : Stage) (s : Sample) (buf m : List ℕ) → InIsStatus st → acts x st s buf m .buffer ≡ buf
+unfolding acts
+acts-same x st s buf m h = by (classify (s .status) (s .intr))
+  where
+    by : (p : Poll) → polls p x st (s .buffers) buf m .buffer ≡ buf
+    by Pending = refl
+    by (Ready f) = stage-same f x st (s .buffers) buf m h
+
+sends-same : (t : Transfer) (s : Sample) (buf m log : List ℕ) → stepOf false t s buf m log .buffer ≡ buf
+sends-same Idle s buf m log = by-idle (λ (o : Outcome). o .buffer ≡ buf) false s buf m log refl refl
+sends-same (Busy r) s buf m log = by-busy (λ (o : Outcome). o .buffer ≡ buf) false r s buf m log refl refl
+    (λ v l g. acts-same (r .request) (r .stage) s buf m (served-status (r .request .kind) (r .stage) (may-parts false r v .0)))
+
+-- ---- 9
+
+not-nine : {A : Type 0} (k : ℕ) → eqb k 9 ≡ false → _≡_ {A = Reply StepResult} (number k) (number 9) → A
+not-nine k f e = absurd (eqb-false k 9 f (number-is k 9 e))
+
+nine-in : (st : Stage) (w : ℕ) (buf m b : List ℕ) → Nine st w buf m b → isInStage st ≡ true
+nine-in setupStage w buf m b e = absurd e
+nine-in (inStage st) w buf m b e = refl
+nine-in (outStage st) w buf m b e = absurd e
+
+acts-nine : (x : Request) (st : Stage) (s : Sample) (buf m : List ℕ) → stepReply (acts x st s buf m .answer) ≡ number 9 → Nine st (s .buffers) buf m (acts x st s buf m .buffer)
+acts-nine x st s buf m e = let o = acts x st s buf m in at-nine buf (Nine st (s .buffers) buf m) (o .answer) (o .buffer) (acts-keeps x st s buf m) e
+
+only-in : (filling : Bool) (t : Transfer) (s : Sample) (buf m log : List ℕ) → stepReply (stepOf filling t s buf m log .answer) ≡ number 9 → receiving t ≡ true
+only-in filling Idle s buf m log = by-idle (λ (o : Outcome). stepReply (o .answer) ≡ number 9 → false ≡ true) filling s buf m log (not-nine 15 refl) (not-nine 16 refl)
+only-in filling (Busy r) s buf m log =
+    by-busy (λ (o : Outcome). stepReply (o .answer) ≡ number 9 → isInStage (r .stage) ≡ true) filling r s buf m log (not-nine 15 refl) (not-nine 16 refl)
+    (λ v l g e. nine-in (r .stage) (s .buffers) buf m (acts (r .request) (r .stage) s buf m .buffer) (acts-nine (r .request) (r .stage) s buf m e))
+
+-- A store from an offset on leaves what is below.
+store-below : (buf vs : List ℕ) (off : ℕ) → off + length vs ≤ length buf → take off (sets buf off vs) ≡ take off buf
+store-below buf vs off h =
+    let a = length-take-le off buf (omega arith) in
+    ap (take off) (sets-eq vs buf off h)
+    ∙ take-append-le off (take off buf ++ vs) (drop (off + length vs) buf) (let z = length-append (take off buf) vs in omega arith)
+    ∙ take-at (take off buf) vs off a
+
+one-below : (w : ℕ) (c : InDepacketiser) (k : ℕ) (buf m : List ℕ) → c .offset + c .remain ≤ length buf
+    → let b = inRetireOne w c k buf m .buffer in (take (c .offset) b ≡ take (c .offset) buf) × (length b ≡ length buf)
+unfolding inRetireOne
+one-below w c k buf m h = go (ltb 0 k && full w (c .parity))
+  where
+    n : ℕ
+    n = lengthIn w (c .parity)
+
+    taken : (l : Bool) → let b = inTaken l n c k buf m .buffer in (take (c .offset) b ≡ take (c .offset) buf) × (length b ≡ length buf)
+    taken true = (refl, refl)
+    taken false =
+        let from = drop (slotAddress (c .parity)) m in
+        let i = inRetire c n .count in
+        let vs = take i from in
+        let u = length-take i from in
+        let v = retire-fits c n .0 in
+        (store-below buf vs (c .offset) (omega (arith, u, v, h)), length-sets buf (c .offset) vs)
+
+    go : (t : Bool) → let b = inRetireIf t n c k buf m .buffer in (take (c .offset) b ≡ take (c .offset) buf) × (length b ≡ length buf)
+    go false = (refl, refl)
+    go true = taken (ltb 64 n)
+
+held-below : (s : Bool) (st : InStage) (w : ℕ) (buf m b : List ℕ) → st .offset + st .remain ≤ length (lent s buf) → HeldBy s st w buf m b
+    → (take (st .offset) b ≡ take (st .offset) buf) × (length b ≡ length buf)
+held-below true st w buf m b h e = (ap (take (st .offset)) (e .1), ap length (e .1))
+held-below false st w buf m b h e =
+    let z = one-below w (inReceived st) (st .inflight) buf m h in
+    (ap (take (st .offset)) (e .1) ∙ z .0, ap length (e .1) ∙ z .1)
+
+below-nine : (x : Request) (st : InStage) (buf : List ℕ) (y : StepCall)
+    → let o = stepIn (inAt x st buf) y in stepReply (o .answer) ≡ number 9 → (take (st .offset) (o .buffer) ≡ take (st .offset) buf) × (length (o .buffer) ≡ length buf)
+below-nine x st buf y =
+    let r : Run = record { request = x; stage = inStage st } in
+    by-busy (λ (o : Outcome). stepReply (o .answer) ≡ number 9 → (take (st .offset) (o .buffer) ≡ take (st .offset) buf) × (length (o .buffer) ≡ length buf)) true r (y .sample) buf (y .memory) (y .log)
+    (not-nine 15 refl) (not-nine 16 refl)
+    (λ v l g e. held-below (st .status) st (y .sample .buffers) buf (y .memory) (acts x (inStage st) (y .sample) buf (y .memory) .buffer)
+    (sound-within x (inStage st) buf (may-parts true r v .1) (sym l)) (acts-nine x (inStage st) (y .sample) buf (y .memory) e))
+
+-- ---- exactly
+
+same-long : (w : ℕ) (s : Bool) → lengthIn w s ≡ readBufferControl w s .LENGTH
+same-long w false = refl
+same-long w true = refl
+
+same-packet : (y : StepCall) (s : Bool) → take (lengthIn (y .sample .buffers) s) (drop (slotAddress s) (y .memory)) ≡ packetAt y s
+same-packet y false = refl
+same-packet y true = refl
+
+slot-low : (s : Bool) → slotAddress s + 64 ≤ 4096
+slot-low false = omega arith
+slot-low true = omega arith
+
+-- With no room nothing is stored.
+no-room : (off room : ℕ) (p buf : List ℕ) → room ≡ 0 → storedAt off room p buf ≡ buf
+no-room off room p buf e =
+    let z : min room (length p) ≡ 0 = omega arith in
+    ap (λ (k : ℕ). take off buf ++ take k p ++ drop (off + k) buf) z
+    ∙ ap₂ {C = List ℕ} _++_ (append-nil (take off buf)) (ap (λ (i : ℕ). drop i buf) (add-zero off)) ∙ take-append-drop off buf
+
+-- n bytes of what lies at `from`.
+stores : (c : InDepacketiser) (n : ℕ) (from buf : List ℕ) → n ≤ length from → c .offset + c .remain ≤ 0xFFFF → c .offset + c .remain ≤ length buf
+    → sets buf (c .offset) (take (inRetire c n .count) from) ≡ storedAt (c .offset) (c .remain) (take n from) buf
+stores c n from buf h few room =
+    let off = c .offset in
+    let k = min (c .remain) n in
+    let len : length (take k from) ≡ k = length-take-le k from (omega arith) in
+    let all = length-take-le n from h in
+    ap (λ (i : ℕ). sets buf off (take i from)) (retires c n few .kept)
+    ∙ sets-eq (take k from) buf off (omega (arith, len, room))
+    ∙ ap₂ {C = List ℕ} (λ (l : List ℕ) (i : ℕ). take off buf ++ l ++ drop (off + i) buf) (sym (take-take k n from (omega arith))) len
+    ∙ ap (λ (i : ℕ). take off buf ++ take i (take n from) ++ drop (off + i) buf) (let z : k ≡ min (c .remain) (length (take n from)) = omega arith in z)
+
+module _ (y : StepCall) (fits : length (y .memory) ≡ 4096) (st : InStage) (buf : List ℕ) (few : st .offset + st .remain ≤ 0xFFFF) where
+  abbrev w : ℕ
+  w = y .sample .buffers
+
+  abbrev n : ℕ
+  n = lengthIn w (st .retire)
+
+  taken : st .offset + st .remain ≤ length buf → (l : Bool) → ltb 64 n ≡ l → inTaken l n (inReceived st) (st .inflight) buf (y .memory) .buffer ≡ keptBy l st y buf
+  taken h true e = refl
+  taken h false e =
+      let u = ltb-false 64 n e in
+      let v = slot-low (st .retire) in
+      let d = length-drop (slotAddress (st .retire)) (y .memory) in
+      stores (inReceived st) n (drop (slotAddress (st .retire)) (y .memory)) buf (omega (arith, fits, u, v, d)) few h
+      ∙ ap (λ (p : List ℕ). storedAt (st .offset) (st .remain) p buf) (same-packet y (st .retire))
+
+  -- Nothing to retire at the first: nothing at the second, which is the same slot.
+  first-stored : st .offset + st .remain ≤ length buf → Long st w buf (y .memory) → firstOne st w buf (y .memory) .buffer ≡ keptBy (ltb 64 n) st y buf
+  unfolding inRetireOne
+  first-stored h = go (ltb 0 (st .inflight) && full w (st .retire)) refl
+    where
+      go : (t : Bool) → (ltb 0 (st .inflight) && full w (st .retire)) ≡ t
+          → (let g = inRetireIf t n (inReceived st) (st .inflight) buf (y .memory) in (g .long ≡ true) ⊎ ((g .long ≡ false) × (secondOne w g (y .memory) .long ≡ true)))
+          → inRetireIf t n (inReceived st) (st .inflight) buf (y .memory) .buffer ≡ keptBy (ltb 64 n) st y buf
+      go false e (inl f) = no (sym f)
+      go false e (inr f) = no (sym (f .1) ∙ ap (λ (t : Bool). inRetireIf t n (inReceived st) (st .inflight) buf (y .memory) .long) e)
+      go true e z = taken h (ltb 64 n) refl
+
+  held-kept : (s : Bool) (b : List ℕ) → st .offset + st .remain ≤ length (lent s buf) → HeldBy s st w buf (y .memory) b → b ≡ keptAtNine st y buf
+  held-kept true b h e = e .1 ∙ sym (by (ltb 64 (readBufferControl w (st .retire) .LENGTH)))
+    where
+      by : (l : Bool) → keptBy l st y buf ≡ buf
+      by true = refl
+      by false = no-room (st .offset) (st .remain) (packetAt y (st .retire)) buf (omega arith)
+  held-kept false b h e = e .1 ∙ first-stored h (e .0) ∙ ap (λ (k : ℕ). keptBy (ltb 64 k) st y buf) (same-long w (st .retire))
+
+long-nine : (x : Request) (st : InStage) (buf : List ℕ) (y : StepCall) → st .offset + st .remain ≤ 0xFFFF
+    → let o = stepIn (inAt x st buf) y in stepReply (o .answer) ≡ number 9 → o .buffer ≡ keptAtNine st y buf
+long-nine x st buf y few =
+    let r : Run = record { request = x; stage = inStage st } in
+    by-busy (λ (o : Outcome). stepReply (o .answer) ≡ number 9 → o .buffer ≡ keptAtNine st y buf) true r (y .sample) buf (y .memory) (y .log) (not-nine 15 refl) (not-nine 16 refl)
+    (λ v l g e. held-kept y (lent-sizes (y .memory) (y .log) g .0) st buf few (st .status) (acts x (inStage st) (y .sample) buf (y .memory) .buffer)
+    (sound-within x (inStage st) buf (may-parts true r v .1) (sym l)) (acts-nine x (inStage st) (y .sample) buf (y .memory) e))
+
+pub keeps-bytes : KeepsBytes
+keeps-bytes = record { failed = failed-keeps; sends = sends-same; only = only-in; below = below-nine; long = long-nine }
