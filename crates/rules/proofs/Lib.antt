@@ -15,12 +15,12 @@ pub mod Received
 pub mod Free
 pub mod Outside
 pub mod Writes
+pub mod Sends
 pub mod ControlStages
 pub mod PacketRules
 pub mod AllOpen
 pub mod HandsBack
 pub mod PipeStates
 pub mod Stores
-pub mod Sends
 pub mod KeepsBytes
 pub mod Example

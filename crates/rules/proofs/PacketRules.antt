@@ -6,8 +6,8 @@ use Rattle.rules.proofs.Received.{receives, arms-as-cut}
 use Rattle.rules.proofs.Decoded.{datasheet-rules}
 use Rattle.rules.proofs.Free.{arms-free}
 use Rattle.rules.proofs.ControlStages.{control-stages}
-use Rattle.rules.proofs.OutToggle.{out-toggles}
+use Rattle.rules.proofs.Sends.{bulk-sends}
 use Rattle.rules.proofs.Writes.{calls-write}
 
 pub packet-rules : PacketRules
-packet-rules = record { usb = usb-rules; counts = counts-bytes; receives = receives; datasheet = datasheet-rules; arms = arms-as-cut; free = arms-free; stages = control-stages; toggles = out-toggles; writes = calls-write }
+packet-rules = record { usb = usb-rules; counts = counts-bytes; receives = receives; datasheet = datasheet-rules; arms = arms-as-cut; free = arms-free; stages = control-stages; sends = bulk-sends; writes = calls-write }

@@ -4,13 +4,13 @@ pub mod Datasheet
 pub mod Received
 pub mod Armed
 pub mod Writes
+pub mod Sends
 pub mod ControlStages
 pub mod PacketRules
 pub mod AllOpen
 pub mod HandsBack
 pub mod PipeStates
 pub mod Stores
-pub mod Sends
 pub mod KeepsBytes
 -- A reading aid: one transfer, computed.
 pub mod Example

@@ -6,7 +6,7 @@ use Rattle.rules.specs.Received.{Receives}
 use Rattle.rules.specs.Armed.{ArmsFree, ArmsAsCut}
 use Rattle.rules.specs.Writes.{CallsWrite}
 use Rattle.rules.specs.ControlStages.{ControlStages}
-use Rattle.rules.specs.OutToggle.{OutToggles}
+use Rattle.rules.specs.Sends.{Sends}
 
 -- The whole claim.
 pub record PacketRules : Type 0 where
@@ -24,7 +24,7 @@ pub record PacketRules : Type 0 where
   pub free : ArmsFree
   -- A control goes from stage to stage: for whom, which way and how long.
   pub stages : ControlStages
-  -- From a bulk OUT begin to its done: the toggle.
-  pub toggles : OutToggles
+  -- From a bulk OUT begin to its done: count and toggle.
+  pub sends : Sends
   -- Every call's writes: how many, to which registers, and zero outside their masks.
   pub writes : CallsWrite
