@@ -31,7 +31,7 @@ use Rattle.rules.proofs.Retired.{slot-more}
 
 -- ---- the counters after a slot
 
-no-arm : {A : Type 0} (a : Arm) → None ≡ Some a → A
+pub no-arm : {A : Type 0} (a : Arm) → None ≡ Some a → A
 no-arm a e = absurd (let z : _≡_ {A = ℕ} 0 1 = cc in omega arith)
 
 record After (c : InPacketiser) (v : InNext) : Type 0 where
@@ -186,7 +186,7 @@ second : (s : ℕ) → 1 < s → armOne s 0 0 1 ≡ 2
 unfolding armOne slotOf
 second s h = ap (λ (b : Bool). armIf (b && true) 1) (lt-ltb 1 s h)
 
-two-armed : (s : ℕ) → armOne s 0 0 (armOne s 0 0 0) ≡ min s 2
+pub two-armed : (s : ℕ) → armOne s 0 0 (armOne s 0 0 0) ≡ min s 2
 two-armed zero = ap (armOne 0 0 0) none-armed ∙ none-armed ∙ omega arith
 two-armed (suc zero) = ap (armOne 1 0 0) (one-armed 1 (omega arith)) ∙ no-second ∙ omega arith
 two-armed (suc (suc s)) = ap (armOne (suc (suc s)) 0 0) (one-armed (suc (suc s)) (omega arith)) ∙ second (suc (suc s)) (omega arith) ∙ omega arith

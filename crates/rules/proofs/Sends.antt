@@ -2,7 +2,7 @@
 use mathlib.Core.Path.{_≡_, refl, sym, ap, ap₂, _∙_, subst}
 use mathlib.Core.Bool.{Bool, true, false, not, cond, _&&_}
 use mathlib.Core.List.{List, [], _∷_, _++_}
-use Prim.Native.Nat.{ℕ, zero, suc, _+_, _-_, _≤_, _<_, min}
+use Prim.Native.Nat.{ℕ, zero, suc, _+_, _-_, _≤_, min}
 use native.Mathlib.Omega.{arith}
 use lib.Dec.{eqb, leb, ltb}
 use lib.ListN.{length}
@@ -54,11 +54,9 @@ use Rattle.rules.proofs.Retired.{no, slot-suc, slot-zero, slot-more}
 use Rattle.rules.proofs.Armed.{same-available}
 use Rattle.rules.proofs.InStage.{not-done, waiting-not, refused-not, by-poll}
 use Rattle.rules.proofs.Steps.{absurd-done, done-is, idle-next, idle-not, accepted, none-idle}
+use Rattle.rules.proofs.Arms.{no-arm, two-armed}
 
 -- ---- the counters after a packet
-
-no-arm : {A : Type 0} (a : Arm) → None ≡ Some a → A
-no-arm a e = absurd (let z : _≡_ {A = ℕ} 0 1 = cc in omega arith)
 
 record After (c : OutCounters) (v : OutNext) : Type 0 where
   size : v .rest .size ≡ c .size
@@ -370,27 +368,6 @@ sent-end packets n [] z s = refl
 sent-end packets n (x ∷ zs) z s = sent-end packets n zs z (sentStep packets n x s)
 
 -- ---- a begin that is accepted
-
-one-armed : (s : ℕ) → 0 < s → armOne s 0 0 0 ≡ 1
-unfolding armOne slotOf
-one-armed s h = ap (λ (b : Bool). armIf (b && true) 0) (lt-ltb 0 s h)
-
-none-armed : armOne 0 0 0 0 ≡ 0
-unfolding armOne
-none-armed = refl
-
-no-second : armOne 1 0 0 1 ≡ 1
-unfolding armOne
-no-second = refl
-
-second : (s : ℕ) → 1 < s → armOne s 0 0 1 ≡ 2
-unfolding armOne slotOf
-second s h = ap (λ (b : Bool). armIf (b && true) 1) (lt-ltb 1 s h)
-
-two-armed : (s : ℕ) → armOne s 0 0 (armOne s 0 0 0) ≡ min s 2
-two-armed zero = ap (armOne 0 0 0) none-armed ∙ none-armed ∙ omega arith
-two-armed (suc zero) = ap (armOne 1 0 0) (one-armed 1 (omega arith)) ∙ no-second ∙ omega arith
-two-armed (suc (suc s)) = ap (armOne (suc (suc s)) 0 0) (one-armed (suc (suc s)) (omega arith)) ∙ second (suc (suc s)) (omega arith) ∙ omega arith
 
 module _ (t : Transfer) (a e p : ℕ) (k : TransferType) (b : Bool) (first m log : List ℕ) (q : beginBulkOutOf t a e p k b first m log .answer ≡ Begun) where
   abbrev start : SentTally
