@@ -2,7 +2,7 @@
 use mathlib.Core.Path.{_≡_, refl, sym, ap, ap₂, _∙_, subst}
 use mathlib.Core.Bool.{Bool, true, false, not, _&&_}
 use mathlib.Core.List.{List, [], _∷_, _++_, map, append-assoc, append-nil}
-use Prim.Native.Nat.{ℕ, _+_, _≤_}
+use Prim.Native.Nat.{ℕ, _+_, _≤_, min}
 use native.Mathlib.Omega.{arith}
 use lib.Dec.{ltb}
 use lib.ListN.{length, take, length-append}
@@ -10,6 +10,7 @@ use lib.Seq.{take-at}
 use borrow.Author.Tests.{ltb-false}
 use Rattle.pool.proofs.Cases.{byCases}
 use Rattle.cutting.specs.declared.transfer_type.TransferType.the-variants.{FixedSize}
+use Rattle.cutting.specs.Retire.{sum}
 use Rattle.cutting.specs.Cut.{Packet, packet, inCut}
 use Rattle.transfers.specs.declared.host_controller.UsbError.{UsbError}
 use Rattle.transfers.specs.declared.host_controller.TransferExtras.{TransferExtras}
@@ -39,7 +40,7 @@ use Rattle.transfers.specs.Writes.{enableWrites, polled, quiets, completes}
 use Rattle.transfers.specs.Arming.{outArmTwo}
 use Rattle.transfers.specs.State.{stageLength, targetOf, addressGood, sizeGood}
 use Rattle.transfers.specs.Outcome.{Outcome, after, startIn, startOut}
-use Rattle.transfers.specs.Step.{setupDone, setupStep, outPackets, outRetireTwo, outControlDone, outComplete, outMove, outStep, lent, keeping, stageStep, polls}
+use Rattle.transfers.specs.Step.{inReceived, setupDone, setupStep, outPackets, outRetireTwo, outControlDone, outComplete, outMove, outStep, lent, keeping, stageStep, polls}
 use Rattle.transfers.specs.Calls.{wellFormed, isIdle, fieldsRefusal, beginRefusal, Beginning, beginsControl, beginControlOf}
 use Rattle.transfers.proofs.OpenPipes.{between}
 use Rattle.transfers.proofs.Beginnings.{none-fields}
@@ -327,6 +328,18 @@ module _ (a p n : ℕ) (first : List ℕ) (few : n ≤ 0xFFFF) (low : 1 ≤ p) (
   so-far h ws f old (atData {s = s} st past ls room e w d sp ev) x = ev old ∙ ap (map (shown false)) (past-armed st (h .buffer) s past ls room d sp)
   so-far h ws f old (atStatus {s = s} st e w sp v l ev) x = ev old
 
+  -- What the caller has by then.
+  has-moved : (h : Running) (ws : List Write) (f : ControlTally) → ControlAt h ws f → (h .transfer ≡ Idle → ⊥) → Moved n first (retiredIn f) (min n (sum (map length (retiredIn f)))) (h .buffer)
+  has-moved h ws f (gone e) x = absurd (x e)
+  has-moved h ws f (atSetup e w b ev) x =
+      let z : 0 ≡ min n 0 = omega arith in
+      let none : Moved n first [] 0 (h .buffer) = record { counted = z; bytes = b } in
+      subst (λ (c : ℕ). Moved n first [] c (h .buffer)) z none
+  has-moved h ws f (atData {s = s} st past ls room e w d sp ev) x =
+      let z = kept-moved n first few room (s .retired) (inReceived st) (h .buffer) (d .flying .kept) in
+      subst (λ (c : ℕ). Moved n first (s .retired) c (h .buffer)) (z .counted) z
+  has-moved h ws f (atStatus {s = s} st e w sp v l ev) x = subst (λ (c : ℕ). Moved n first (s .retired) c (h .buffer)) (v .counted) v
+
 -- A control In begin that is accepted.
 module _ (t : Transfer) (a : ℕ) (x : TransferExtras) (p : ℕ) (s : SetupPacket) (first m log : List ℕ) (few : s .wLength ≤ 0xFFFF) (q : beginControlOf t a x p s phaseIn first m log .answer ≡ Begun) where
   abbrev begun : Running
@@ -355,6 +368,10 @@ module _ (t : Transfer) (a : ℕ) (x : TransferExtras) (p : ℕ) (s : SetupPacke
 
   pub control-armed : (ys : List StepCall) (old : ℕ) → (afterSteps true begun ys .transfer ≡ Idle → ⊥) → armings old (begun-writes ++ writesOf true begun ys) ≡ controlArmed (inCut FixedSize p true (s .wLength)) (controlTally many-slots inSetup ys)
   control-armed ys old y = so-far a p (s .wLength) first few (sizes .0) (sizes .1) (afterSteps true begun ys) (begun-writes ++ writesOf true begun ys) (controlTally many-slots inSetup ys) old (control-at ys) y
+
+  pub control-so-far : (ys : List StepCall) → (afterSteps true begun ys .transfer ≡ Idle → ⊥)
+      → let got = controlReceived many-slots ys in Moved (s .wLength) first got (min (s .wLength) (sum (map length got))) (afterSteps true begun ys .buffer)
+  control-so-far ys y = has-moved a p (s .wLength) first few (sizes .0) (sizes .1) (afterSteps true begun ys) (begun-writes ++ writesOf true begun ys) (controlTally many-slots inSetup ys) (control-at ys) y
 
   pub control-ended : (ys : List StepCall) (y : StepCall) (count : ℕ) → let o = stepIn (afterSteps true begun ys) y in
       o .answer ≡ Done count → Moved (s .wLength) first (controlReceived many-slots (ys ++ (y ∷ []))) count (o .buffer) × (o .next ≡ Idle) × ((old : ℕ) → armings old (o .writes) ≡ [])

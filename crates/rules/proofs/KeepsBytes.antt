@@ -2,22 +2,31 @@
 use mathlib.Core.Path.{_≡_, refl, sym, ap, ap₂, _∙_, subst}
 use mathlib.Core.Bool.{Bool, true, false, cond, _&&_, true≢false}
 use mathlib.Core.Logic.{_⊎_, inl, inr}
-use mathlib.Core.List.{List, [], _∷_, _++_, append-nil}
+use mathlib.Core.List.{List, [], _∷_, _++_, map, append-nil}
 use Prim.Native.Nat.{ℕ, _+_, _≤_, min}
 use native.Mathlib.Nat.{add-zero}
 use native.Mathlib.Omega.{arith}
 use borrow.Author.Tests.{eqb-true, eqb-false, ltb-false}
 use lib.Bits.{bitAnd}
-use lib.Dec.{eqb, ltb}
+use lib.Dec.{eqb, leb, ltb}
 use lib.ListN.{length, take, drop, length-append, length-take, length-drop, take-append-drop}
-use lib.Seq.{sets, sets-eq, length-sets, length-take-le, take-take, take-at, take-append-le}
+use lib.Seq.{sets, sets-eq, length-sets, length-take-le, take-length, take-take, take-at, take-append-le}
+use Rattle.cutting.specs.declared.transfer_type.TransferType.{TransferType}
 use Rattle.cutting.specs.declared.depacketiser.InDepacketiser.{InDepacketiser}
-use Rattle.cutting.specs.Retire.{inRetire}
+use Rattle.cutting.specs.declared.transfer_type.TransferType.the-variants.{FixedSize}
+use Rattle.cutting.specs.Cut.{Packet, inCut}
+use Rattle.cutting.specs.Retire.{inRetire, sum}
+use Rattle.cutting.specs.Rules.{joined}
 use Rattle.cutting.proofs.Retiring.{retires, retire-fits}
+use Rattle.cutting.proofs.Filled.{total-joined, Stored, stored-length, stored-one}
 use Rattle.transfers.specs.declared.host_controller.UsbError.{UsbError}
 use Rattle.transfers.specs.declared.host_controller.UsbError.the-variants.{Stall, Timeout, Overflow, BitStuffError, CrcError, DataSeqError}
 use Rattle.transfers.specs.declared.host_controller.DataPhase.{DataPhase}
 use Rattle.transfers.specs.declared.host_controller.DataPhase.the-variants.{In as phaseIn, Out as phaseOut, None as phaseNone}
+use Rattle.transfers.specs.declared.host_controller.TransferExtras.{TransferExtras}
+use Rattle.transfers.specs.declared.wire.SetupPacket.{SetupPacket}
+use Rattle.transfers.specs.declared.wire.Direction.the-variants.{In}
+use Rattle.transfers.specs.declared.answers.BeginAnswer.the-variants.{Begun}
 use Rattle.transfers.specs.declared.answers.StepAnswer.{StepAnswer}
 use Rattle.transfers.specs.declared.answers.StepAnswer.the-variants.{Waiting, Done, Refused}
 use Rattle.transfers.specs.declared.refusal.Refusal.the-variants.{LentMemory, State}
@@ -43,15 +52,20 @@ use Rattle.transfers.specs.Reply.{Reply, result, number, StepResult, stepReply}
 use Rattle.transfers.specs.Sample.{errors, firstOf, classify, full, lengthIn}
 use Rattle.transfers.specs.Retiring.{InRetiring, inTaken, inRetireIf, inRetireOne}
 use Rattle.transfers.specs.Ready.{Within, InIsStatus}
-use Rattle.transfers.specs.State.{controlOf}
-use Rattle.transfers.specs.Outcome.{Outcome}
+use Rattle.transfers.specs.State.{controlOf, targetOf, addressGood, endpointGood, sizeGood}
+use Rattle.transfers.specs.Outcome.{Outcome, startIn}
 use Rattle.transfers.specs.Step.{setupDone, setupStep, inReceived, inDone, inSecondDone, inFirstDone, inComplete, inSecondMoved, inFirstMoved, inRearm, inMove, inStep, outRetireTwo, outControlDone, outDone, outComplete, outMove, outStep, lent, keeping, stageStep, polls, acts}
-use Rattle.transfers.specs.Calls.{refuses, stepIf, mayStep, stepLent, stepOf}
-use Rattle.transfers.proofs.OpenPipes.{lent-sizes}
+use Rattle.transfers.specs.Calls.{refuses, stepIf, mayStep, stepLent, stepOf, wellFormed, isIdle, fieldsRefusal, beginRefusal, Beginning, bulkRequest, beginsBulkIn, beginBulkInOf, beginControlOf}
+use Rattle.transfers.proofs.OpenPipes.{between, lent-sizes}
+use Rattle.transfers.proofs.Beginnings.{none-fields, bulk-good}
+use Rattle.transfers.proofs.WellFormed.{step-well, begin-bulk-in-well}
 use Rattle.transfers.proofs.Readiness.{both, sound-within, served-status, may-parts}
 use Rattle.rules.specs.Fields.{readBufferControl}
-use Rattle.rules.specs.Received.{StepCall, packetAt, stepIn}
-use Rattle.rules.specs.KeepsBytes.{storedAt, keptBy, keptAtNine, isInStage, receiving, inAt, KeepsBytes}
+use Rattle.rules.specs.Received.{slotOf, StepCall, packetAt, Tally, tallyStep, tallied, tallyStart, received, controlReceived, Running, stepIn, afterStep, afterSteps, Moved}
+use Rattle.rules.specs.KeepsBytes.{packetStored, bufferBy, bufferAtNine, packetsBy, packetsAtNine, isInStage, receiving, inStageAt, KeepsBytes}
+use Rattle.rules.proofs.InStage.{Stands, Comes, fails, goes, finishes, comes, starts-armed, starts}
+use Rattle.rules.proofs.Steps.{tally-more, tally-none, after-more, after-none, idle-next, kept-moved, accepted, none-idle}
+use Rattle.rules.proofs.ControlIn.{control-so-far}
 
 no : {A : Type 0} → true ≡ false → A
 no e = absurd (true≢false e)
@@ -390,7 +404,7 @@ held-below false st w buf m b h e =
     (ap (take (st .offset)) (e .1) ∙ z .0, ap length (e .1) ∙ z .1)
 
 below-nine : (x : Request) (st : InStage) (buf : List ℕ) (y : StepCall)
-    → let o = stepIn (inAt x st buf) y in stepReply (o .answer) ≡ number 9 → (take (st .offset) (o .buffer) ≡ take (st .offset) buf) × (length (o .buffer) ≡ length buf)
+    → let o = stepIn (inStageAt x st buf) y in stepReply (o .answer) ≡ number 9 → (take (st .offset) (o .buffer) ≡ take (st .offset) buf) × (length (o .buffer) ≡ length buf)
 below-nine x st buf y =
     let r : Run = record { request = x; stage = inStage st } in
     by-busy (λ (o : Outcome). stepReply (o .answer) ≡ number 9 → (take (st .offset) (o .buffer) ≡ take (st .offset) buf) × (length (o .buffer) ≡ length buf)) true r (y .sample) buf (y .memory) (y .log)
@@ -413,7 +427,7 @@ slot-low false = omega arith
 slot-low true = omega arith
 
 -- With no room nothing is stored.
-no-room : (off room : ℕ) (p buf : List ℕ) → room ≡ 0 → storedAt off room p buf ≡ buf
+no-room : (off room : ℕ) (p buf : List ℕ) → room ≡ 0 → packetStored off room p buf ≡ buf
 no-room off room p buf e =
     let z : min room (length p) ≡ 0 = omega arith in
     ap (λ (k : ℕ). take off buf ++ take k p ++ drop (off + k) buf) z
@@ -421,7 +435,7 @@ no-room off room p buf e =
 
 -- n bytes of what lies at `from`.
 stores : (c : InDepacketiser) (n : ℕ) (from buf : List ℕ) → n ≤ length from → c .offset + c .remain ≤ 0xFFFF → c .offset + c .remain ≤ length buf
-    → sets buf (c .offset) (take (inRetire c n .count) from) ≡ storedAt (c .offset) (c .remain) (take n from) buf
+    → sets buf (c .offset) (take (inRetire c n .count) from) ≡ packetStored (c .offset) (c .remain) (take n from) buf
 stores c n from buf h few room =
     let off = c .offset in
     let k = min (c .remain) n in
@@ -439,42 +453,190 @@ module _ (y : StepCall) (fits : length (y .memory) ≡ 4096) (st : InStage) (buf
   abbrev n : ℕ
   n = lengthIn w (st .retire)
 
-  taken : st .offset + st .remain ≤ length buf → (l : Bool) → ltb 64 n ≡ l → inTaken l n (inReceived st) (st .inflight) buf (y .memory) .buffer ≡ keptBy l st y buf
+  taken : st .offset + st .remain ≤ length buf → (l : Bool) → ltb 64 n ≡ l → inTaken l n (inReceived st) (st .inflight) buf (y .memory) .buffer ≡ bufferBy l st y buf
   taken h true e = refl
   taken h false e =
       let u = ltb-false 64 n e in
       let v = slot-low (st .retire) in
       let d = length-drop (slotAddress (st .retire)) (y .memory) in
       stores (inReceived st) n (drop (slotAddress (st .retire)) (y .memory)) buf (omega (arith, fits, u, v, d)) few h
-      ∙ ap (λ (p : List ℕ). storedAt (st .offset) (st .remain) p buf) (same-packet y (st .retire))
+      ∙ ap (λ (p : List ℕ). packetStored (st .offset) (st .remain) p buf) (same-packet y (st .retire))
 
   -- Nothing to retire at the first: nothing at the second, which is the same slot.
-  first-stored : st .offset + st .remain ≤ length buf → Long st w buf (y .memory) → firstOne st w buf (y .memory) .buffer ≡ keptBy (ltb 64 n) st y buf
+  first-stored : st .offset + st .remain ≤ length buf → Long st w buf (y .memory) → firstOne st w buf (y .memory) .buffer ≡ bufferBy (ltb 64 n) st y buf
   unfolding inRetireOne
   first-stored h = go (ltb 0 (st .inflight) && full w (st .retire)) refl
     where
       go : (t : Bool) → (ltb 0 (st .inflight) && full w (st .retire)) ≡ t
           → (let g = inRetireIf t n (inReceived st) (st .inflight) buf (y .memory) in (g .long ≡ true) ⊎ ((g .long ≡ false) × (secondOne w g (y .memory) .long ≡ true)))
-          → inRetireIf t n (inReceived st) (st .inflight) buf (y .memory) .buffer ≡ keptBy (ltb 64 n) st y buf
+          → inRetireIf t n (inReceived st) (st .inflight) buf (y .memory) .buffer ≡ bufferBy (ltb 64 n) st y buf
       go false e (inl f) = no (sym f)
       go false e (inr f) = no (sym (f .1) ∙ ap (λ (t : Bool). inRetireIf t n (inReceived st) (st .inflight) buf (y .memory) .long) e)
       go true e z = taken h (ltb 64 n) refl
 
-  held-kept : (s : Bool) (b : List ℕ) → st .offset + st .remain ≤ length (lent s buf) → HeldBy s st w buf (y .memory) b → b ≡ keptAtNine st y buf
+  held-kept : (s : Bool) (b : List ℕ) → st .offset + st .remain ≤ length (lent s buf) → HeldBy s st w buf (y .memory) b → b ≡ bufferAtNine st y buf
   held-kept true b h e = e .1 ∙ sym (by (ltb 64 (readBufferControl w (st .retire) .LENGTH)))
     where
-      by : (l : Bool) → keptBy l st y buf ≡ buf
+      by : (l : Bool) → bufferBy l st y buf ≡ buf
       by true = refl
       by false = no-room (st .offset) (st .remain) (packetAt y (st .retire)) buf (omega arith)
-  held-kept false b h e = e .1 ∙ first-stored h (e .0) ∙ ap (λ (k : ℕ). keptBy (ltb 64 k) st y buf) (same-long w (st .retire))
+  held-kept false b h e = e .1 ∙ first-stored h (e .0) ∙ ap (λ (k : ℕ). bufferBy (ltb 64 k) st y buf) (same-long w (st .retire))
 
 long-nine : (x : Request) (st : InStage) (buf : List ℕ) (y : StepCall) → st .offset + st .remain ≤ 0xFFFF
-    → let o = stepIn (inAt x st buf) y in stepReply (o .answer) ≡ number 9 → o .buffer ≡ keptAtNine st y buf
+    → let o = stepIn (inStageAt x st buf) y in stepReply (o .answer) ≡ number 9 → o .buffer ≡ bufferAtNine st y buf
 long-nine x st buf y few =
     let r : Run = record { request = x; stage = inStage st } in
-    by-busy (λ (o : Outcome). stepReply (o .answer) ≡ number 9 → o .buffer ≡ keptAtNine st y buf) true r (y .sample) buf (y .memory) (y .log) (not-nine 15 refl) (not-nine 16 refl)
+    by-busy (λ (o : Outcome). stepReply (o .answer) ≡ number 9 → o .buffer ≡ bufferAtNine st y buf) true r (y .sample) buf (y .memory) (y .log) (not-nine 15 refl) (not-nine 16 refl)
     (λ v l g e. held-kept y (lent-sizes (y .memory) (y .log) g .0) st buf few (st .status) (acts x (inStage st) (y .sample) buf (y .memory) .buffer)
     (sound-within x (inStage st) buf (may-parts true r v .1) (sym l)) (acts-nine x (inStage st) (y .sample) buf (y .memory) e))
 
+-- ---- from a bulk IN begin on
+
+module _ (a e p : ℕ) (k : TransferType) (b : Bool) (first : List ℕ) (few : length first ≤ 0xFFFF) where
+  abbrev bulkX : Request
+  bulkX = bulkRequest In a e p b (length first)
+
+  abbrev many : ℕ
+  many = length (inCut k p b (length first))
+
+  fit : length first ≤ length first
+  fit = omega arith
+
+  data BulkAt (h : Running) (s : Tally) : Type 0 where
+    over : h .transfer ≡ Idle → BulkAt h s
+    under : (st : InStage) (ls : List (Packet ℕ)) → h .transfer ≡ Busy (record { request = bulkX; stage = inStage st }) → wellFormed (h .transfer) ≡ true
+        → Stands bulkX many (length first) first few fit st (h .buffer) s ls → BulkAt h s
+
+  on-step : (h : Running) (s : Tally) (y : StepCall) → BulkAt h s → BulkAt (afterStep (stepIn h y)) (tallyStep many y s)
+  on-step h s y (over q) = over (idle-next true h y q)
+  on-step h s y (under st ls q v d) = by
+      (subst (λ (t : Transfer). Comes bulkX many (length first) first few fit y s ls (stepIn (record { transfer = t; buffer = h .buffer }) y)) (sym q)
+      (comes bulkX many (length first) first few fit y st (h .buffer) s ls refl (sym (ap wellFormed q) ∙ v) refl d))
+    where
+      by : Comes bulkX many (length first) first few fit y s ls (stepIn h y) → BulkAt (afterStep (stepIn h y)) (tallyStep many y s)
+      by (fails u f) = over u
+      by (goes st′ now rest u q′ d′ f sq eq) = under st′ rest q′ (step-well true (h .transfer) (y .sample) (h .buffer) (y .memory) (y .log) v) d′
+      by (finishes d₁ buf u kp q′ a₁ t₁ b₁ v₁) = over q′
+
+  on-steps : (ys : List StepCall) (h : Running) (s : Tally) → BulkAt h s → BulkAt (afterSteps true h ys) (tallied many s ys)
+  on-steps [] h s q = rw (after-none true h, tally-none many s) q
+  on-steps (y ∷ ys) h s q = rw (after-more true h y ys, tally-more many s y ys) (on-steps ys (afterStep (stepIn h y)) (tallyStep many y s) (on-step h s y q))
+
+  so-far : (h : Running) (s : Tally) → BulkAt h s → (h .transfer ≡ Idle → ⊥) → Moved (length first) first (s .retired) (min (length first) (sum (map length (s .retired)))) (h .buffer)
+  so-far h s (over q) f = absurd (f q)
+  so-far h s (under st ls q v d) f =
+      let z = kept-moved (length first) first few fit (s .retired) (inReceived st) (h .buffer) (d .flying .kept) in
+      subst (λ (c : ℕ). Moved (length first) first (s .retired) c (h .buffer)) (z .counted) z
+
+  -- What is stored is what the caller gets.
+  stored-moved : (got : List (List ℕ)) (d : InDepacketiser) (buf : List ℕ) → Stored (length first) first few fit got d buf → Moved (length first) first got (min (length first) (sum (map length got))) buf
+  stored-moved got d buf z =
+      let c : d .offset ≡ min (length first) (sum (map length got)) = z .offset ∙ ap (min (length first)) (total-joined got) in
+      record { counted = refl; bytes = z .buffer ∙ ap (λ (i : ℕ). take i (joined got) ++ drop i first) c }
+
+  -- 9 in a stage that stands.
+  nine-by : (y : StepCall) (got : List (List ℕ)) (st : InStage) (buf : List ℕ) → Stored (length first) first few fit got (inReceived st) buf → st .retire ≡ slotOf (length got)
+      → (l : Bool) → let now = packetsBy l y got in Moved (length first) first now (min (length first) (sum (map length now))) (bufferBy l st y buf)
+  nine-by y got st buf z s true = stored-moved got (inReceived st) buf z
+  nine-by y got st buf z s false =
+      let from = packetAt y (st .retire) in
+      let d = inReceived st in
+      let w = z .whole in
+      let len = stored-length (length first) first few fit got d buf z in
+      let same : packetAt y (st .retire) ≡ packetAt y (slotOf (length got)) = ap (packetAt y) s in
+      let stored = stored-one (length first) first few fit got d buf from (length from) (omega arith) z in
+      let bytes : sets buf (st .offset) (take (inRetire d (length from) .count) from) ≡ packetStored (st .offset) (st .remain) from buf =
+      stores d (length from) from buf (omega arith) (omega (arith, w, few)) (omega (arith, w, len))
+      ∙ ap (λ (l : List ℕ). packetStored (st .offset) (st .remain) l buf) (take-length from) in
+      let moved = stored-moved (got ++ (take (length from) from ∷ [])) (inRetire d (length from) .rest) (sets buf (st .offset) (take (inRetire d (length from) .count) from)) stored in
+      subst (λ (l : List ℕ). let now = got ++ (l ∷ []) in Moved (length first) first now (min (length first) (sum (map length now))) (packetStored (st .offset) (st .remain) from buf)) (take-length from ∙ same)
+      (subst (λ (l : List ℕ). let now = got ++ (take (length from) from ∷ []) in Moved (length first) first now (min (length first) (sum (map length now))) l) bytes moved)
+
+  nine-moved : (h : Running) (s : Tally) (y : StepCall) → BulkAt h s → stepReply (stepIn h y .answer) ≡ number 9
+      → let got = packetsAtNine y (s .retired) in Moved (length first) first got (min (length first) (sum (map length got))) (stepIn h y .buffer)
+  nine-moved h s y (over q) r = no (sym (only-in true (h .transfer) (y .sample) (h .buffer) (y .memory) (y .log) r) ∙ ap receiving q)
+  nine-moved h s y (under st ls q v d) r =
+      let kept = d .flying .kept in
+      let got = packetsAtNine y (s .retired) in
+      let w = kept .stored .whole in
+      let same : stepIn h y ≡ stepIn (inStageAt bulkX st (h .buffer)) y = ap (λ (t : Transfer). stepIn (record { transfer = t; buffer = h .buffer }) y) q in
+      let l = ltb 64 (readBufferControl (y .sample .buffers) (slotOf (length (s .retired))) .LENGTH) in
+      let is : stepIn h y .buffer ≡ bufferBy l st y (h .buffer) =
+      ap (λ (o : Outcome). o .buffer) same ∙ long-nine bulkX st (h .buffer) y (omega (arith, w, few)) (ap (λ (o : Outcome). stepReply (o .answer)) (sym same) ∙ r)
+      ∙ ap (λ (z : Bool). bufferBy z st y (h .buffer)) (ap (λ (u : Bool). ltb 64 (readBufferControl (y .sample .buffers) u .LENGTH)) (kept .parity)) in
+      subst (λ (l : List ℕ). Moved (length first) first got (min (length first) (sum (map length got))) l) (sym is)
+      (nine-by y (s .retired) st (h .buffer) (kept .stored) (kept .parity) l)
+
+module _ (t : Transfer) (a e p : ℕ) (k : TransferType) (b : Bool) (first m log : List ℕ) (q : beginBulkInOf t a e p k b first m log .answer ≡ Begun) where
+  abbrev opened : Running
+  opened = record { transfer = beginBulkInOf t a e p k b first m log .next; buffer = first }
+
+  abbrev many-slots : ℕ
+  many-slots = length (inCut k p b (length first))
+
+  record Fine : Type 0 where
+    few : length first ≤ 0xFFFF
+    at : BulkAt a e p k b first few opened (tallyStart many-slots)
+
+  begins-fine : Fine
+  unfolding beginBulkInOf
+  begins-fine =
+      let fields = fieldsRefusal (addressGood a) (endpointGood e) (sizeGood p) (leb (length first) 0xFFFF) in
+      let r = beginRefusal (lentFits m log) (isIdle t) fields in
+      let x = bulkRequest In a e p b (length first) in
+      let ok = accepted r t m (beginsBulkIn x k m) q in
+      let good = bulk-good t a e p first m log (ok .0) in
+      let sizes = between 1 p 64 (none-fields (lentFits m log) (isIdle t) (addressGood a) (endpointGood e) (sizeGood p) (leb (length first) 0xFFFF) (ok .0) .2) in
+      let room = fit a e p k b first (good .few) in
+      let s = starts-armed x many-slots (length first) first (good .few) room k (targetOf x) refl refl (sizes .0) (sizes .1) refl in
+      record {
+        few = good .few;
+        at = under (startIn (targetOf x) k false (length first) .stage) (s .rest) (ap (λ (z : Beginning). z .next) (ok .1))
+            (begin-bulk-in-well t a e p k b first m log (none-idle (lentFits m log) t fields (ok .0)))
+            (starts x many-slots (length first) first (good .few) room k (targetOf x) refl refl (sizes .0) (sizes .1) refl);
+      }
+
+  bulk-so-far : (ys : List StepCall) → (afterSteps true opened ys .transfer ≡ Idle → ⊥)
+      → let got = received many-slots ys in Moved (length first) first got (min (length first) (sum (map length got))) (afterSteps true opened ys .buffer)
+  bulk-so-far ys f =
+      let g = begins-fine in
+      so-far a e p k b first (g .few) (afterSteps true opened ys) (tallied many-slots (tallyStart many-slots) ys) (on-steps a e p k b first (g .few) ys opened (tallyStart many-slots) (g .at)) f
+
+  bulk-failed : (ys : List StepCall) (y : StepCall) (n : ℕ) → (afterSteps true opened ys .transfer ≡ Idle → ⊥) → stepReply (stepIn (afterSteps true opened ys) y .answer) ≡ number n → 1 ≤ n → n ≤ 7
+      → let got = received many-slots ys in Moved (length first) first got (min (length first) (sum (map length got))) (stepIn (afterSteps true opened ys) y .buffer)
+  bulk-failed ys y n f r low high =
+      let h = afterSteps true opened ys in
+      let got = received many-slots ys in
+      subst (λ (l : List ℕ). Moved (length first) first got (min (length first) (sum (map length got))) l)
+      (sym (failed-keeps true (h .transfer) (y .sample) (h .buffer) (y .memory) (y .log) n r (λ (z : n ≡ 9). omega arith))) (bulk-so-far ys f)
+
+  bulk-long : (ys : List StepCall) (y : StepCall) → stepReply (stepIn (afterSteps true opened ys) y .answer) ≡ number 9
+      → let got = packetsAtNine y (received many-slots ys) in Moved (length first) first got (min (length first) (sum (map length got))) (stepIn (afterSteps true opened ys) y .buffer)
+  bulk-long ys y r =
+      let g = begins-fine in
+      nine-moved a e p k b first (g .few) (afterSteps true opened ys) (tallied many-slots (tallyStart many-slots) ys) y (on-steps a e p k b first (g .few) ys opened (tallyStart many-slots) (g .at)) r
+
+control-failed : (t : Transfer) (a : ℕ) (x : TransferExtras) (p : ℕ) (s : SetupPacket) (first m log : List ℕ) (ys : List StepCall) (y : StepCall) (n : ℕ) → s .wLength ≤ 0xFFFF
+    → beginControlOf t a x p s phaseIn first m log .answer ≡ Begun
+    → let h = afterSteps true (record { transfer = beginControlOf t a x p s phaseIn first m log .next; buffer = first }) ys in
+    let got = controlReceived (length (inCut FixedSize p true (s .wLength))) ys in
+    (h .transfer ≡ Idle → ⊥) → stepReply (stepIn h y .answer) ≡ number n → 1 ≤ n → n ≤ 7 → Moved (s .wLength) first got (min (s .wLength) (sum (map length got))) (stepIn h y .buffer)
+control-failed t a x p s first m log ys y n few q f r low high =
+    let h = afterSteps true (record { transfer = beginControlOf t a x p s phaseIn first m log .next; buffer = first }) ys in
+    let got = controlReceived (length (inCut FixedSize p true (s .wLength))) ys in
+    subst (λ (l : List ℕ). Moved (s .wLength) first got (min (s .wLength) (sum (map length got))) l)
+    (sym (failed-keeps true (h .transfer) (y .sample) (h .buffer) (y .memory) (y .log) n r (λ (z : n ≡ 9). omega arith))) (control-so-far t a x p s first m log few q ys f)
+
 pub keeps-bytes : KeepsBytes
-keeps-bytes = record { failed = failed-keeps; sends = sends-same; only = only-in; below = below-nine; long = long-nine }
+keeps-bytes = record {
+  failed = failed-keeps;
+  sends = sends-same;
+  only = only-in;
+  below = below-nine;
+  long = long-nine;
+  bulk = λ t a e p k b first m log ys q. bulk-so-far t a e p k b first m log q ys;
+  bulkFailed = λ t a e p k b first m log ys y n q. bulk-failed t a e p k b first m log q ys y n;
+  bulkLong = λ t a e p k b first m log ys y q. bulk-long t a e p k b first m log q ys y;
+  control = λ t a x p s first m log ys few q. control-so-far t a x p s first m log few q ys;
+  controlFailed = control-failed;
+}
