@@ -63,4 +63,11 @@ pub const EDITS: &[Edit] = &[
         times: 1,
         reason: "raw address of slot 1, IN",
     },
+    Edit {
+        file: RP2040,
+        old: "for i in 0..15 {",
+        new: "for i in 0..16 {",
+        times: 1,
+        reason: "document 02, R-2: the interrupt routine looks at pipes 0 to 15",
+    },
 ];

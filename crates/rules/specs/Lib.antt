@@ -8,6 +8,7 @@ pub mod Sends
 pub mod ControlStages
 pub mod PacketRules
 pub mod AllOpen
+pub mod Wakes
 pub mod HandsBack
 pub mod PipeStates
 pub mod Stores

@@ -26,7 +26,7 @@ set-of-last (suc k) f =
     let e = ap (weigh (f (suc k))) (pow-suc 2 k) ∙ twice (f (suc k)) (2 ^ k) in
     omega (arith, set-of-last k (λ n. f (suc n)), e)
 
--- "`on_irq` looks at pipes 0 to 14": bit i of the set says whether pipe i is to be woken, and no other bit is set.
+-- "The interrupt routine now looks at 0 to 15": bit i of the set says whether pipe i is to be woken, and no other bit is set.
 pub woken : (ints status i : ℕ) → i < irqPipes → has (wokenPipes ints status) i ≡ isWoken ints status i
 unfolding wokenPipes
 woken ints status i h = has-set-of irqPipes (isWoken ints status) i ∙ rw (lt-ltb i irqPipes h)

@@ -1,4 +1,4 @@
--- The interrupt routine: "`on_irq` looks at pipes 0 to 14 and answers the set of pipes to wake and whether to wake detection".
+-- The interrupt routine: `on_irq` "answers the set of pipes to wake and whether to wake detection".
 use mathlib.Core.Path.{_≡_}
 use mathlib.Core.Bool.{Bool, true, false, not, _&&_, _||_}
 use mathlib.Core.List.{List, [], _∷_, _++_}
@@ -14,9 +14,9 @@ use Rattle.transfers.specs.Masks.{isReady}
 use Rattle.transfers.specs.Memory.{logFits}
 use Rattle.transfers.specs.Registers.{field, bit, ones, buffStatus, inte}
 
--- Pipes 0 to 14 are looked at.
+-- "The interrupt routine now looks at 0 to 15."
 abbrev pub irqPipes : ℕ
-irqPipes = 15
+irqPipes = 16
 
 -- The interrupt BUFF_STATUS is raised, and the register has one of the pipe's two bits set.
 abbrev pub hasBuffer : ℕ → ℕ → ℕ → Bool

@@ -160,12 +160,12 @@ pollRow opened n buffer m log =
 
 -- ---- interrupt routine and detection
 
--- "`on_irq` looks at pipes 0 to 14": those with a bit of BUFF_STATUS, where its interrupt is raised, and the control pipe by INTR and 0x458.
+-- "The interrupt routine now looks at 0 to 15": the pipes with a bit of BUFF_STATUS, where its interrupt is raised, and the control pipe by INTS and 0x458.
 abbrev pub irqRow : ℕ → ℕ → List ℕ → Reply Wake
 irqRow ints status log =
     unless (leb 192 (length log)) 15
     (result (record {
-      pipes = setOf 15 (λ i. (bit 4 ints && not (eqb (field (2 * i) 2 status) 0)) || (eqb i 0 && not (eqb (bitAnd ints 0x458) 0)));
+      pipes = setOf 16 (λ i. (bit 4 ints && not (eqb (field (2 * i) 2 status) 0)) || (eqb i 0 && not (eqb (bitAnd ints 0x458) 0)));
       detect = bit 0 ints;
     }))
 

@@ -28,7 +28,8 @@ pub struct Woken {
     pub writes: usize,
 }
 
-const IRQ_PIPES: u32 = 15;
+// Pipes 0 to 15 are looked at.
+const IRQ_PIPES: u32 = 16;
 
 fn has_buffer(ints: u32, status: u32, i: u32) -> bool
     requires { ⌜ i < 16 ⌝ }

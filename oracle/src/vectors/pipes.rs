@@ -44,7 +44,7 @@ impl<W: Write> Vectors<W> {
         Ok(())
     }
 
-    /// All fifteen opened, polled, closed in another order and opened again.
+    /// All fifteen opened, each woken and polled, closed in another order and opened again.
     fn all_pipes(&mut self) -> io::Result<()> {
         self.case("pipes: all fifteen, the sixteenth, closed ones used again")?;
         for n in 1..=15 {
@@ -56,6 +56,7 @@ impl<W: Write> Vectors<W> {
         for n in 1..=15 {
             let host_addr_endp = n << 16 | (100 + n);
             self.line(&format!("poll {n} 0 {host_addr_endp:#x}"))?;
+            self.line(&format!("irq 0x10 {:#x}", 1u32 << (2 * n)))?;
             self.line(&format!("poll {n} 0x8010 {host_addr_endp:#x}"))?;
             self.line(&format!("poll {n} 0x8010 {host_addr_endp:#x}"))?;
         }
