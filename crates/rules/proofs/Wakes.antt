@@ -40,7 +40,7 @@ woken-by : (ints status : ℕ) → WokenBy ints status (record { pipes = wokenPi
 woken-by ints status = record {
   each = interrupt-pipe ints status;
   control = woken ints status 0 (omega arith);
-  none = not-woken ints status;
+  none = λ n from. not-woken ints status n (omega arith);
   detection = ap (λ (v : ℕ). eqb (v % 2) 1) (div-one ints);
 }
 
