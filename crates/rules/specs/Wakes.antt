@@ -10,8 +10,8 @@ use Rattle.transfers.specs.declared.host_controller.TransferExtras.{TransferExt
 use Rattle.transfers.specs.declared.driver.Driver.{Driver}
 use Rattle.transfers.specs.declared.refusal.Refusal.{Refusal}
 use Rattle.transfers.specs.declared.irq.Wake.{Wake}
-use Rattle.transfers.specs.declared.irq.IrqAnswer.the-variants.{Wake as Woken, Refused as IrqRefused}
-use Rattle.transfers.specs.declared.irq.Woken.{Woken as Handed}
+use Rattle.transfers.specs.declared.irq.IrqAnswer.the-variants.{Wake as IrqWake, Refused as IrqRefused}
+use Rattle.transfers.specs.declared.irq.Woken.{Woken}
 use Rattle.transfers.specs.Log.{logged}
 use Rattle.transfers.specs.Reply.{result, number, irqReply, openReply}
 use Rattle.transfers.specs.Pipes.{opening}
@@ -23,7 +23,7 @@ showsBuffer ints status n = eqb (ints / 0x10 % 2) 1 && not (eqb (status / 2 ^ (2
 
 -- The routine answers w.
 abbrev pub IrqAnswers : ℕ → ℕ → List ℕ → Wake → Type 0
-IrqAnswers ints status log w = waking ints status log .answer ≡ Woken w
+IrqAnswers ints status log w = waking ints status log .answer ≡ IrqWake w
 
 -- Bit n of a set of pipes is pipe n's.
 abbrev pub isIn : ℕ → ℕ → Bool
@@ -45,6 +45,7 @@ pub record Wakes : Type 0 where
   -- "15 .. log below 192 words": then nothing is written; lent 192 words it refuses nothing.
   pub short : (ints status : ℕ) (log : List ℕ) → length log < 192 → (irqReply (waking ints status log .answer) ≡ number 15) × (waking ints status log .writes ≡ [])
   pub answers : (ints status : ℕ) (log : List ℕ) (why : Refusal) → 192 ≤ length log → waking ints status log .answer ≡ IrqRefused why → ⊥
+  -- Its answer is what the words say.
   pub woken : (ints status : ℕ) (log : List ℕ) (w : Wake) → IrqAnswers ints status log w → WokenBy ints status w
   -- "the pool hands out pipe 15": every pipe that open answers, whatever is open beside it, is woken by its own bits.
   pub opened : (d : Driver) (address : ℕ) (extras : TransferExtras) (endpoint size interval : ℕ) (lent : List ℕ) (n : ℕ)
@@ -53,5 +54,5 @@ pub record Wakes : Type 0 where
   -- Only pipe 15 shows a buffer: it is woken, and pipe 0 by INTS, as 0x10 is one of the bits of 0x458.
   pub alone : (log : List ℕ) → 192 ≤ length log → IrqAnswers 0x10 0x4000_0000 log (record { pipes = 0x8001; detect = false })
   -- What `on_irq` hands back: this answer, the count of these writes, and a log that holds them.
-  pub handed : (ints status : ℕ) (log log′ : List ℕ) (r : Handed) → let e = waking ints status log in DidWake e r log log′
+  pub handed : (ints status : ℕ) (log log′ : List ℕ) (r : Woken) → let e = waking ints status log in DidWake e r log log′
       → (r .answer ≡ e .answer) × (r .writes ≡ length (e .writes)) × (log′ ≡ logged log 0 (e .writes))
