@@ -25,7 +25,7 @@ pub(crate) fn lent_fits(pm: &[u8], log: &[u32]) -> bool
 pub fn slot_address(slot: bool) -> usize
     ensures { λ r. ⌜ r ≡ slotAddress slot ⌝ }
 {
-    if slot { 0x1C0 } else { 0x180 }
+    0x180 + 64 * slot as usize
 }
 
 // The first n bytes of src go into dst from at on.
