@@ -29,7 +29,7 @@ add-result : tie.Need-add-result
 add-result c = omega (arith, byte-le (c .args .slot))
 
 returns : tie.Need-returns
-returns c = address (c .args .slot)
+returns c = omega (arith, address (c .args .slot))
 
 pub slot-address-spec : {M : Type 1} → statement M
 slot-address-spec = tie.close (tie.spec cast-result mul-result add-result returns)
