@@ -37,7 +37,7 @@ no-complete w (e ∷ es) = by (isSet (e .place) w) (no-complete w es)
 -- It finds TRANS_COMPLETE where the sample shows it.
 pub finds-is : (y : Sample) → finds y ≡ isComplete (classify (y .status) (y .intr))
 unfolding classify
-finds-is y = by (eqb (bitAnd (y .intr) 0x458) 0) (isSet 18 (y .status))
+finds-is y = by (eqb (bitAnd (y .intr) 0x7F8) 0) (isSet 18 (y .status))
   where
     by : (p q : Bool) → (not p && q) ≡ isComplete (cond p Pending (Ready (cond q Complete (firstOf (y .status) errors))))
     by true q = refl

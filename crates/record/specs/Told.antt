@@ -40,9 +40,9 @@ marks w (setupAt lo hi ∷ es) = marks w es
 marks w (outAt s b true n ∷ es) = marks (inSlot s) es
 marks w (outAt s b false n ∷ es) = marks w es
 
--- "the step that finds TRANS_COMPLETE": "INTR and 0x458 all zero: waiting. Else .. TRANS_COMPLETE wins", which is bit 18 of SIE_STATUS.
+-- "the step that finds TRANS_COMPLETE": "A poll is ready when INTR and 0x7F8 is not zero", and TRANS_COMPLETE is bit 18 of SIE_STATUS.
 abbrev pub finds : Sample → Bool
-finds y = not (eqb (bitAnd (y .intr) 0x458) 0) && isSet 18 (y .status)
+finds y = not (eqb (bitAnd (y .intr) 0x7F8) 0) && isSet 18 (y .status)
 
 -- "1 to 7 and 9 end the transfer": of a step's refusals these; 15 and 16 leave it.
 abbrev pub ends : Refusal → Bool

@@ -192,7 +192,7 @@ goes-on-fair x (outStage st) w buf m =
 
 acts-fair : (x : Request) (st : Stage) (s : Sample) (buf m : List ℕ) → FairOf x (acts x st s buf m)
 unfolding acts classify
-acts-fair x st s buf m = polled (eqb (bitAnd (s .intr) 0x458) 0) (bit 18 (s .status))
+acts-fair x st s buf m = polled (eqb (bitAnd (s .intr) 0x7F8) 0) (bit 18 (s .status))
   where
     w : ℕ
     w = s .buffers

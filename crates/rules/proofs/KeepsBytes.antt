@@ -220,7 +220,7 @@ goes-on-keeps x (outStage st) w buf m = out-keeping (st .status) buf (outStep Ne
 
 acts-keeps : (x : Request) (st : Stage) (s : Sample) (buf m : List ℕ) → KeepsOf buf (Nine st (s .buffers) buf m) (acts x st s buf m)
 unfolding acts classify
-acts-keeps x st s buf m = polled (eqb (bitAnd (s .intr) 0x458) 0) (bit 18 (s .status))
+acts-keeps x st s buf m = polled (eqb (bitAnd (s .intr) 0x7F8) 0) (bit 18 (s .status))
   where
     w : ℕ
     w = s .buffers

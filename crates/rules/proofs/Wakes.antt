@@ -94,6 +94,10 @@ alone-woken : (log : List ℕ) → 192 ≤ length log → IrqAnswers 0x10 0x4000
 unfolding wokenPipes setOf
 alone-woken log fits = ap (λ (e : Waking). e .answer) (waking-fits 0x10 0x4000_0000 log fits)
 
+error-woken : (log : List ℕ) → 192 ≤ length log → IrqAnswers 0x20 0 log (record { pipes = 0x0001; detect = false })
+unfolding wokenPipes setOf
+error-woken log fits = ap (λ (e : Waking). e .answer) (waking-fits 0x20 0 log fits)
+
 pub wakes : Wakes
 wakes = record {
   short = too-short;
@@ -103,5 +107,6 @@ wakes = record {
       let k = opens-one d address extras endpoint size interval lent n said in
       answered ints status log w h .each n (k .0) (k .1);
   alone = alone-woken;
+  error = error-woken;
   handed = λ ints status log log′ r d. (d .answer, d .log .count ∙ zero-add (length (waking ints status log .writes)), d .log .log);
 }

@@ -153,13 +153,13 @@ pub record Frees : Type 0 where
 abbrev pub clearsStatus : Write
 clearsStatus = wr 0x5011_0050 0xFFFF_FFFF 0xFF08_0000
 
--- "enabling stall, rx timeout and trans complete": bits 10, 6 and 3 of INTE.
+-- "Waiting now enables trans complete and all six error interrupts": bits 3 and 5 to 10 of INTE.
 abbrev pub enablesWaiting : Write
-enablesWaiting = wr 0x5011_0090 0x448 0x448
+enablesWaiting = wr 0x5011_0090 0x7E8 0x7E8
 
 -- A step that acts.
 pub record StepWrites : Type 0 where
-  -- "INTR and 0x458 all zero: waiting, after writing 0xFF08_0000 to SIE_STATUS and enabling stall, rx timeout and trans complete."
+  -- INTR and 0x7F8 all zero: "waiting, after writing 0xFF08_0000 to SIE_STATUS and enabling" these seven.
   pub quietly : (filling : Bool) (t : Transfer) (s : Sample) (buf m log : List ℕ)
       → let o = stepOf filling t s buf m log in hasActed (stepReply (o .answer)) ≡ true → quiet s ≡ true
       → (stepReply (o .answer) ≡ result (waiting false)) × (o .next ≡ t) × (o .armed ≡ noneArmed) × (o .writes ≡ clearsStatus ∷ enablesWaiting ∷ []) × (o .memory ≡ m) × (o .buffer ≡ buf)

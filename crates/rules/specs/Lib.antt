@@ -4,6 +4,7 @@ pub mod Datasheet
 pub mod Received
 pub mod Armed
 pub mod Writes
+pub mod Enables
 pub mod Sends
 pub mod ControlStages
 pub mod PacketRules

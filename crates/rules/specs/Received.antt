@@ -27,9 +27,9 @@ use Rattle.rules.specs.Fields.{readBufferControl}
 
 -- ---- what a sample shows
 
--- "INTR and 0x458 all zero: waiting"
+-- "A poll is ready when INTR and 0x7F8 is not zero": else it is quiet.
 abbrev pub quiet : Sample → Bool
-quiet s = eqb (bitAnd (s .intr) 0x458) 0
+quiet s = eqb (bitAnd (s .intr) 0x7F8) 0
 
 -- TRANS_COMPLETE is bit 18 of SIE_STATUS.
 abbrev pub complete : Sample → Bool

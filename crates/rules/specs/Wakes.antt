@@ -33,8 +33,8 @@ isIn pipes n = eqb (pipes / 2 ^ n % 2) 1
 pub record WokenBy (ints status : ℕ) (w : Wake) : Type 0 where
   -- "the datasheet has fifteen interrupt endpoints": each by its own two bits and by nothing else.
   pub each : (n : ℕ) → 1 ≤ n → n ≤ 15 → isIn (w .pipes) n ≡ showsBuffer ints status n
-  -- The control pipe also where INTS and 0x458 is not zero.
-  pub control : isIn (w .pipes) 0 ≡ showsBuffer ints status 0 || not (eqb (bitAnd ints 0x458) 0)
+  -- "`on_irq` wakes pipe 0 by the same mask": also where INTS and 0x7F8 is not zero.
+  pub control : isIn (w .pipes) 0 ≡ showsBuffer ints status 0 || not (eqb (bitAnd ints 0x7F8) 0)
   -- No other bit is set.
   pub none : (n : ℕ) → 16 ≤ n → isIn (w .pipes) n ≡ false
   -- Detection by INTS' HOST_CONN_DIS (bit 0).
@@ -51,8 +51,10 @@ pub record Wakes : Type 0 where
   pub opened : (d : Driver) (address : ℕ) (extras : TransferExtras) (endpoint size interval : ℕ) (lent : List ℕ) (n : ℕ)
       → openReply (opening d address extras endpoint size interval lent .answer) ≡ result n
       → (ints status : ℕ) (log : List ℕ) (w : Wake) → IrqAnswers ints status log w → isIn (w .pipes) n ≡ showsBuffer ints status n
-  -- Only pipe 15 shows a buffer: it is woken, and pipe 0 by INTS, as 0x10 is one of the bits of 0x458.
+  -- Only pipe 15 shows a buffer: it is woken, and pipe 0 by INTS, as 0x10 is one of the bits of 0x7F8.
   pub alone : (log : List ℕ) → 192 ≤ length log → IrqAnswers 0x10 0x4000_0000 log (record { pipes = 0x8001; detect = false })
+  -- An error's interrupt alone wakes pipe 0.
+  pub error : (log : List ℕ) → 192 ≤ length log → IrqAnswers 0x20 0 log (record { pipes = 0x0001; detect = false })
   -- What `on_irq` hands back: this answer, the count of these writes, and a log that holds them.
   pub handed : (ints status : ℕ) (log log′ : List ℕ) (r : Woken) → let e = waking ints status log in DidWake e r log log′
       → (r .answer ≡ e .answer) × (r .writes ≡ length (e .writes)) × (log′ ≡ logged log 0 (e .writes))

@@ -52,7 +52,7 @@ proved-table = record {
   inward = λ t b. either t (λ (u : TransferType). map inRow (inCut u 64 b 65) ≡ _) refl refl;
   sequence = refl;
   done = refl;
-  early = refl;
+  crc = refl;
   sixteenth = λ d address extras endpoint size interval log fits. rw (times address extras endpoint size interval log fits 15, free address extras endpoint size interval log fits);
   again = λ d address extras endpoint size interval log fits. rw (times address extras endpoint size interval log fits 15, free address extras endpoint size interval log fits);
 }

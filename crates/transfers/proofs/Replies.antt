@@ -262,7 +262,7 @@ acts-row : (x : Request) (st : Stage) (s : Sample) (buf m : List ℕ) → stageF
     → stepReply (acts x st s buf m .answer) ≡ actsRow x st s buf m
 unfolding acts classify
 acts-row x st s buf m fits =
-    polled (eqb (bitAnd (s .intr) 0x458) 0) (bit 18 (s .status))
+    polled (eqb (bitAnd (s .intr) 0x7F8) 0) (bit 18 (s .status))
   where
     w : ℕ
     w = s .buffers

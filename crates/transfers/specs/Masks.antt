@@ -4,19 +4,15 @@ use Prim.Native.Nat.{ℕ}
 use lib.Bits.{bitAnd}
 use lib.Dec.{eqb}
 
--- A poll is ready when one of these is raised: TRANS_COMPLETE, BUFF_STATUS, RX_TIMEOUT, STALL.
+-- "A poll is ready when INTR and 0x7F8 is not zero": TRANS_COMPLETE, BUFF_STATUS and the six errors.
 abbrev pub readyMask : ℕ
-readyMask = 0x458
+readyMask = 0x7F8
 
 -- One of them is raised.
 abbrev pub isReady : ℕ → Bool
 isReady w = not (eqb (bitAnd w readyMask) 0)
 
--- "enabling stall, rx timeout and trans complete"
-abbrev pub waitingMask : ℕ
-waitingMask = 0x448
-
--- TRANS_COMPLETE and the six errors.
+-- "trans complete and all six error interrupts": what waiting enables, and every begin and step that enables some.
 abbrev pub endingMask : ℕ
 endingMask = 0x7E8
 

@@ -71,8 +71,8 @@ pub record ProvedTable : Type 0 where
   pub sequence : statusRow (classify 0xA000_0000 0x400) ≡ refused 6
   -- "0x2004_0000 with 0x8: complete."
   pub done : statusRow (classify 0x2004_0000 0x8) ≡ complete
-  -- "0x0100_0000 with 0x200: waiting."
-  pub early : statusRow (classify 0x0100_0000 0x200) ≡ waiting
+  -- "The status 0x0100_0000 with INTR 0x200, waiting in 01's table, becomes answer 5."
+  pub crc : statusRow (classify 0x0100_0000 0x200) ≡ refused 5
   -- "Sixteenth open: 10."
   pub sixteenth : (d : Driver) (address : ℕ) (extras : TransferExtras) (endpoint size interval : ℕ) (log : List ℕ)
       → OpenFits address extras endpoint size interval log

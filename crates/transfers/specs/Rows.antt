@@ -113,10 +113,10 @@ errorRow status none =
     cond (bit 31 status) (number 6) (cond (bit 29 status) (number 1) (cond (bit 26 status) (number 3)
     (cond (bit 27 status) (number 2) (cond (bit 25 status) (number 4) (cond (bit 24 status) (number 5) none)))))
 
--- "INTR and 0x458 all zero: waiting. Else .. TRANS_COMPLETE wins; then errors"
+-- "A poll is ready when INTR and 0x7F8 is not zero", else waiting; ready, "TRANS_COMPLETE wins; then errors"
 abbrev pub actsRow : Request → Stage → Sample → List ℕ → List ℕ → Reply StepResult
 actsRow x st s buf m =
-    cond (eqb (bitAnd (s .intr) 0x458) 0) (result (waiting false))
+    cond (eqb (bitAnd (s .intr) 0x7F8) 0) (result (waiting false))
     (cond (bit 18 (s .status)) (completeRow x st (s .buffers) buf m) (errorRow (s .status) (goesOnRow st (s .buffers))))
 
 -- "16 nothing under way that this call serves, or a state with ..; then, step only, 15 buffer length not that of begin"
@@ -160,12 +160,12 @@ pollRow opened n buffer m log =
 
 -- ---- interrupt routine and detection
 
--- "The interrupt routine now looks at 0 to 15": the pipes with a bit of BUFF_STATUS, where its interrupt is raised, and the control pipe by INTS and 0x458.
+-- "The interrupt routine now looks at 0 to 15": the pipes with a bit of BUFF_STATUS, where its interrupt is raised, and "`on_irq` wakes pipe 0 by the same mask", 0x7F8.
 abbrev pub irqRow : ℕ → ℕ → List ℕ → Reply Wake
 irqRow ints status log =
     unless (leb 192 (length log)) 15
     (result (record {
-      pipes = setOf 16 (λ i. (bit 4 ints && not (eqb (field (2 * i) 2 status) 0)) || (eqb i 0 && not (eqb (bitAnd ints 0x458) 0)));
+      pipes = setOf 16 (λ i. (bit 4 ints && not (eqb (field (2 * i) 2 status) 0)) || (eqb i 0 && not (eqb (bitAnd ints 0x7F8) 0)));
       detect = bit 0 ints;
     }))
 

@@ -36,7 +36,7 @@ abbrev pub firstPlace : ℕ → List Error → ℕ
 firstPlace w [] = 0
 firstPlace w (e ∷ es) = cond (bit (e .place) w) (e .place) (firstPlace w es)
 
--- "INTR and 0x458 all zero: waiting. Else .. TRANS_COMPLETE wins; then errors"
+-- "A poll is ready when INTR and 0x7F8 is not zero", else waiting; ready, "TRANS_COMPLETE wins; then errors"
 unfoldable pub classify : ℕ → ℕ → Poll
 classify status intr = cond (eqb (bitAnd intr readyMask) 0) Pending (Ready (cond (bit 18 status) Complete (firstOf status errors)))
 

@@ -181,7 +181,7 @@ stageStep f x setupStage w buf m = setupStep f x buf m
 stageStep f x (inStage st) w buf m = keeping (st .status) buf (inStep f x st w (lent (st .status) buf) m)
 stageStep f x (outStage st) w buf m = keeping (st .status) buf (outStep f x st w (lent (st .status) buf) m)
 
--- "INTR and 0x458 all zero: waiting"; else the SIE_STATUS write is made and the stage goes on.
+-- "A poll is ready when INTR and 0x7F8 is not zero": then the SIE_STATUS write is made and the stage goes on; else waiting.
 abbrev pub polls : Poll → Request → Stage → ℕ → List ℕ → List ℕ → Outcome
 polls Pending x st w buf m = waits x st false nothingArmed (polled ∷ awaits ∷ []) m buf
 polls (Ready f) x st w buf m = after (polled ∷ []) (stageStep f x st w buf m)

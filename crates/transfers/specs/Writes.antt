@@ -11,7 +11,7 @@ use Rattle.transfers.specs.declared.wire.Direction.{Direction}
 use Rattle.transfers.specs.declared.wire.Direction.the-variants.{In, Out}
 use Rattle.transfers.specs.declared.writes.Target.{Target}
 use Rattle.transfers.specs.Registers.{setupLow, setupHigh, epBuffer, epxControl, addrEndp, sieCtrl, sieStatus, buffStatus, nakPoll, inte, ones, weigh, half}
-use Rattle.transfers.specs.Masks.{waitingMask, endingMask, buffStatusMask}
+use Rattle.transfers.specs.Masks.{endingMask, buffStatusMask}
 use Rattle.transfers.specs.Log.{Write, wr, delay}
 
 -- USB 2.0 table 9-2: the SETUP's eight bytes as two words, low byte first.
@@ -74,9 +74,9 @@ goWrites d = wr sieCtrl 0xE (towards d) ∷ delay ∷ wr sieCtrl 1 1 ∷ []
 abbrev pub polled : Write
 polled = wr sieStatus ones 0xFF08_0000
 
--- A poll that isn't ready enables what it waits for.
+-- "Waiting now enables trans complete and all six error interrupts."
 abbrev pub awaits : Write
-awaits = wr inte waitingMask waitingMask
+awaits = wr inte endingMask endingMask
 
 -- After a ready poll of a data or status stage.
 abbrev pub quiets : List Write

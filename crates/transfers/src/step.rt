@@ -16,10 +16,10 @@ use crate::progress::toggle_in;
 use crate::progress::wait;
 use crate::refusal::Refusal;
 use crate::registers::ALL;
+use crate::registers::ENDING_MASK;
 use crate::registers::INTE;
 use crate::registers::POLLED;
 use crate::registers::SIE_STATUS;
-use crate::registers::WAITING_MASK;
 use crate::sample::Found;
 use crate::sample::Poll;
 use crate::sample::Sample;
@@ -158,7 +158,7 @@ fn pending(x: Request, stage: Stage, log: &mut [u32], k: usize) -> Progress
     requires { ⌜ (k ≤ 20) × LogFits (now log) ⌝ }
     ensures { λ r. ⌜ ((m b : List ℕ) → Tells (waits x stage false nothingArmed (awaits ∷ []) m b) (now (log .entry)) k r (now (log .exit))) ⌝ }
 {
-    let k = put(log, k, INTE, WAITING_MASK, WAITING_MASK);
+    let k = put(log, k, INTE, ENDING_MASK, ENDING_MASK);
     wait(x, stage, false, nothing_armed(), k)
 }
 
