@@ -70,4 +70,26 @@ pub const EDITS: &[Edit] = &[
         times: 1,
         reason: "document 02, R-2: the interrupt routine looks at pipes 0 to 15",
     },
+    Edit {
+        file: RP2040,
+        old: "(intr.bits() & 0x458) != 0",
+        new: "(intr.bits() & 0x7F8) != 0",
+        times: 1,
+        reason: "document 02, R-4: a poll is ready when INTR and 0x7F8 is not zero",
+    },
+    Edit {
+        file: RP2040,
+        old: "(ints.bits() & 0x458) != 0",
+        new: "(ints.bits() & 0x7F8) != 0",
+        times: 1,
+        reason: "document 02, R-4: the interrupt routine wakes pipe 0 by the same mask",
+    },
+    // The three bits that only a waiting poll sets in this order.
+    Edit {
+        file: RP2040,
+        old: "                w.stall()\n                    .set_bit()\n                    .error_rx_timeout()\n                    .set_bit()\n                    .trans_complete()\n                    .set_bit()\n",
+        new: "                w.stall()\n                    .set_bit()\n                    .error_rx_timeout()\n                    .set_bit()\n                    .trans_complete()\n                    .set_bit()\n                    .error_data_seq()\n                    .set_bit()\n                    .error_rx_overflow()\n                    .set_bit()\n                    .error_bit_stuff()\n                    .set_bit()\n                    .error_crc()\n                    .set_bit()\n",
+        times: 1,
+        reason: "document 02, R-4: waiting enables trans complete and all six error interrupts",
+    },
 ];

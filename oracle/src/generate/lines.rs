@@ -95,9 +95,9 @@ impl<W: Write> Generator<W> {
         let intr = match self.rng.below(8) {
             0 => 0,
             1 => 1 << self.rng.below(11),
-            2 => self.rng.bits() & 0x3a7,
+            2 => self.rng.bits() & 0x807,
             3 => self.rng.bits(),
-            _ => self.rng.pick(&[0x8, 0x10, 0x18, 0x40, 0x400, 0x458]),
+            _ => self.rng.pick(&[0x8, 0x10, 0x18, 0x20, 0x40, 0x80, 0x100, 0x200, 0x400, 0x7f8]),
         };
         let buffer_control = self.slot(under_way.size) | self.slot(under_way.size) << 16;
         self.step(under_way.way, sie_status, intr, buffer_control)
@@ -180,7 +180,7 @@ impl<W: Write> Generator<W> {
         let ints = match self.rng.below(4) {
             0 => self
                 .rng
-                .pick(&[0, 1, 8, 0x10, 0x11, 0x20, 0x40, 0x400, 0x458, 0x7ff]),
+                .pick(&[0, 1, 8, 0x10, 0x11, 0x20, 0x40, 0x200, 0x400, 0x7f8, 0x7ff]),
             1 => self.rng.bits(),
             _ => self.rng.bits() & self.rng.bits() & 0x7ff,
         };

@@ -115,10 +115,10 @@ impl<W: Write> Vectors<W> {
             "irq 0 0",
             "irq 0x10 0",
             "irq 0x11 0xc",
-            "irq 0x458 0x30",
-            "irq 0x448 0x30",
+            "irq 0x7f8 0x30",
+            "irq 0x7e8 0x30",
             "irq 0xffffffff 0xffffffff",
-            "irq 0xfffffba6 0xffffffff",
+            "irq 0xfffff807 0xffffffff",
         ])
     }
 

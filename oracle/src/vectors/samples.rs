@@ -88,6 +88,6 @@ impl<W: Write> Vectors<W> {
         for bit in 0..32 {
             self.step(stage.way, 0, 1 << bit, 0)?;
         }
-        self.step(stage.way, 0, !0x458, 0)
+        self.step(stage.way, 0, !0x7f8, 0)
     }
 }

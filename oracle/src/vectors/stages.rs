@@ -111,7 +111,7 @@ impl<W: Write> Vectors<W> {
             "lend 4096 192",
             "open 3 0 1 8 10",
             "poll 1 0x8002 0x00010003",
-            "irq 0x458 0xffffffff",
+            "irq 0x7f8 0xffffffff",
             "detect 0x200",
             "close 1",
         ])?;
