@@ -84,7 +84,7 @@ pub const EDITS: &[Edit] = &[
         times: 1,
         reason: "document 02, R-4: the interrupt routine wakes pipe 0 by the same mask",
     },
-    // The three bits that only a waiting poll sets in this order.
+    // No other place of the file sets these three bits in this order.
     Edit {
         file: RP2040,
         old: "                w.stall()\n                    .set_bit()\n                    .error_rx_timeout()\n                    .set_bit()\n                    .trans_complete()\n                    .set_bit()\n",

@@ -215,7 +215,7 @@ acts-fair x st s buf m = polled (eqb (bitAnd (s .intr) 0x7F8) 0) (bit 18 (s .sta
 
 -- ---- every step: refused with 15 or 16, or one that acts
 
-by-step : (P : Outcome → Type 0) (filling : Bool) (t : Transfer) (s : Sample) (buf m log : List ℕ)
+pub by-step : (P : Outcome → Type 0) (filling : Bool) (t : Transfer) (s : Sample) (buf m log : List ℕ)
     → P (refuses t LentMemory m buf) → P (refuses t State m buf) → ((r : Run) → t ≡ Busy r → P (acts (r .request) (r .stage) s buf m)) → P (stepOf filling t s buf m log)
 unfolding stepOf
 by-step P filling Idle s buf m log a b c = go (lentFits m log)

@@ -21,6 +21,7 @@ pub mod PacketRules
 pub mod AllOpen
 pub mod Wakes
 pub mod HandsBack
+pub mod Enables
 pub mod PipeStates
 pub mod Stores
 pub mod KeepsBytes

@@ -4,13 +4,13 @@ pub mod Datasheet
 pub mod Received
 pub mod Armed
 pub mod Writes
-pub mod Enables
 pub mod Sends
 pub mod ControlStages
 pub mod PacketRules
 pub mod AllOpen
 pub mod Wakes
 pub mod HandsBack
+pub mod Enables
 pub mod PipeStates
 pub mod Stores
 pub mod KeepsBytes
