@@ -43,9 +43,9 @@ use Rattle.transfers.specs.Sample.{classify}
 use Rattle.transfers.specs.Writes.{headWrites, armWrites, enableWrites, goWrites, polled, quiets, completes}
 use Rattle.transfers.specs.Arming.{inArmTwo, outArmTwo}
 use Rattle.transfers.specs.Retiring.{InRetiring, inRetireOne}
-use Rattle.transfers.specs.State.{targetOf, stageLength, addressGood, sizeGood, kindGood, requestGood, stageGood, sound, controlOf}
+use Rattle.transfers.specs.State.{targetOf, addressGood, sizeGood, kindGood, requestGood, stageGood, sound, controlOf}
 use Rattle.transfers.specs.Outcome.{Outcome, after, startIn, startOut, entersIn, entersOut}
-use Rattle.transfers.specs.Step.{setupDone, setupStep, inPackets, inReceived, inDone, inSecondDone, inFirstDone, inComplete, inRearm, inSecondMoved, inFirstMoved, inMove, inStep, outPackets, outRetireTwo, outControlDone, outDone, outComplete, outMove, outStep, lent, keeping, stageStep, polls, acts}
+use Rattle.transfers.specs.Step.{setupDone, setupStep, inReceived, inDone, inSecondDone, inFirstDone, inComplete, inRearm, inSecondMoved, inFirstMoved, inMove, inStep, outRetireTwo, outControlDone, outDone, outComplete, outMove, outStep, lent, keeping, stageStep, polls, acts}
 use Rattle.transfers.specs.Calls.{isIdle, fieldsRefusal, beginRefusal, Beginning, beginsControl, beginControlOf, stepIf, mayStep, stepLent, stepOf}
 use Rattle.transfers.proofs.Readiness.{both, may-parts}
 use Rattle.rules.specs.Fields.{wordAfter, readEndpointControl, readAddrEndp, readSieCtrl}
@@ -58,6 +58,7 @@ use Rattle.rules.proofs.Retired.{no}
 use Rattle.rules.proofs.InStage.{by-poll}
 use Rattle.rules.proofs.Steps.{accepted}
 use Rattle.rules.proofs.Decoded.{in-two-every, out-two-every}
+use Rattle.rules.proofs.GoesOn.{GoesOn, failed-every, neither-every, step-every}
 
 -- ---- registers that writes leave alone
 
@@ -119,71 +120,8 @@ module _ (q : ℕ) (o : Other q) where
   out-two-leaves : (w : ℕ) (c : OutCounters) (k : ℕ) (buf m : List ℕ) → Leaves q (outArmTwo w c k buf m .writes)
   out-two-leaves w c k buf m = out-two-every (λ r m v. eqb q r ≡ false) arm-leaves w c k buf m
 
-  -- ---- a stage that goes on
-
-  in-second-leaves : (b : Bool) (h : InRetiring) (w : ℕ) (x : Request) (st : InStage) (m : List ℕ) → Leaves q (inSecondMoved b h w x st m .writes)
-  unfolding inRearm
-  in-second-leaves true h w x st m = tt
-  in-second-leaves false h w x st m =
-      let n = stageLength x (st .status) in
-      then (inArmTwo w (inPackets x st) (h .inflight) .writes) (enableWrites (x .size) n) (in-two-leaves w (inPackets x st) (h .inflight)) (enable-leaves (x .size) n)
-
-  in-first-leaves : (b : Bool) (g : InRetiring) (w : ℕ) (x : Request) (st : InStage) (m : List ℕ) → Leaves q (inFirstMoved b g w x st m .writes)
-  in-first-leaves true g w x st m = tt
-  in-first-leaves false g w x st m = let h = inRetireOne w (g .packets) (g .inflight) (g .buffer) m in in-second-leaves (h .long) h w x st m
-
-  in-move-leaves : (x : Request) (st : InStage) (w : ℕ) (buf m : List ℕ) → Leaves q (inMove x st w buf m .writes)
-  unfolding inMove
-  in-move-leaves x st w buf m = let g = inRetireOne w (inReceived st) (st .inflight) buf m in in-first-leaves (g .long) g w x st m
-
-  out-move-leaves : (x : Request) (st : OutStage) (w : ℕ) (buf m : List ℕ) → Leaves q (outMove x st w buf m .writes)
-  unfolding outMove
-  out-move-leaves x st w buf m =
-      let r = outRetireTwo w (st .retire) (st .inflight) in
-      let n = stageLength x (st .status) in
-      then (outArmTwo w (outPackets x st) (r .inflight) buf m .writes) (enableWrites (x .size) n) (out-two-leaves w (outPackets x st) (r .inflight) buf m) (enable-leaves (x .size) n)
-
-  keeping-leaves : (b : Bool) (buf : List ℕ) (u : Outcome) → Leaves q (u .writes) → Leaves q (keeping b buf u .writes)
-  keeping-leaves true buf u h = h
-  keeping-leaves false buf u h = h
-
-  failed-leaves : (e : UsbError) (x : Request) (st : Stage) (w : ℕ) (buf m : List ℕ) → Leaves q (stageStep (Failed e) x st w buf m .writes)
-  unfolding setupStep inStep outStep
-  failed-leaves e x setupStage w buf m = tt
-  failed-leaves e x (inStage st) w buf m = keeping-leaves (st .status) buf (inStep (Failed e) x st w (lent (st .status) buf) m) quiets-leaves
-  failed-leaves e x (outStage st) w buf m = keeping-leaves (st .status) buf (outStep (Failed e) x st w (lent (st .status) buf) m) quiets-leaves
-
-  neither-leaves : (x : Request) (st : Stage) (w : ℕ) (buf m : List ℕ) → Leaves q (stageStep Neither x st w buf m .writes)
-  unfolding setupStep inStep outStep
-  neither-leaves x setupStage w buf m = tt
-  neither-leaves x (inStage st) w buf m =
-      let b = lent (st .status) buf in
-      keeping-leaves (st .status) buf (inStep Neither x st w b m) (then quiets (inMove x st w b m .writes) quiets-leaves (in-move-leaves x st w b m))
-  neither-leaves x (outStage st) w buf m =
-      let b = lent (st .status) buf in
-      keeping-leaves (st .status) buf (outStep Neither x st w b m) (then quiets (outMove x st w b m .writes) quiets-leaves (out-move-leaves x st w b m))
-
-  -- ---- a step that goes on
-
-  module _ (s : Sample) (goes : endsStage s ≡ false) where
-    polls-leaves : (x : Request) (st : Stage) (buf m : List ℕ) → Leaves q (polls (classify (s .status) (s .intr)) x st (s .buffers) buf m .writes)
-    polls-leaves x st buf m = by-poll s (λ (p : Poll) (a c : Bool). (not a && c) ≡ false → Leaves q (polls p x st (s .buffers) buf m .writes))
-        (λ c e. (o .status, (o .inte, tt)))
-        (λ e. no e)
-        (λ f e. (o .status, failed-leaves f x st (s .buffers) buf m))
-        (λ e. (o .status, neither-leaves x st (s .buffers) buf m))
-        goes
-
-    step-if-leaves : (a b : Bool) (r : Run) (buf m : List ℕ) → Leaves q (stepIf a b r s buf m .writes)
-    unfolding acts
-    step-if-leaves false b r buf m = tt
-    step-if-leaves true false r buf m = tt
-    step-if-leaves true true r buf m = polls-leaves (r .request) (r .stage) buf m
-
-    step-lent-leaves : (l f : Bool) (t : Transfer) (buf m : List ℕ) → Leaves q (stepLent l f t s buf m .writes)
-    step-lent-leaves false f t buf m = tt
-    step-lent-leaves true f Idle buf m = tt
-    step-lent-leaves true f (Busy r) buf m = step-if-leaves (mayStep f r) (eqb (length buf) (r .request .length)) r buf m
+  goes : GoesOn (λ r m v. eqb q r ≡ false)
+  goes = record { arm = arm-leaves; enable = enable-leaves; poll = o .status; wait = o .inte; quiet = quiets-leaves }
 
   -- ---- a step that doesn't wait
 
@@ -238,8 +176,8 @@ module _ (q : ℕ) (o : Other q) where
     polls-quits x st buf m = by-poll s (λ (p : Poll) (a c : Bool). Quits (polls p x st (s .buffers) buf m))
         (λ c f. (o .status, (o .inte, tt)))
         (λ f. (o .status, complete-quits x st (s .buffers) buf m f))
-        (λ e f. (o .status, failed-leaves e x st (s .buffers) buf m))
-        (λ f. (o .status, neither-leaves x st (s .buffers) buf m))
+        (λ e f. (o .status, failed-every (λ r m v. eqb q r ≡ false) goes e x st (s .buffers) buf m))
+        (λ f. (o .status, neither-every (λ r m v. eqb q r ≡ false) goes x st (s .buffers) buf m))
 
     step-if-quits : (a b : Bool) (r : Run) (buf m : List ℕ) → Quits (stepIf a b r s buf m)
     unfolding acts
@@ -253,11 +191,10 @@ module _ (q : ℕ) (o : Other q) where
     step-lent-quits true b (Busy r) buf m f = step-if-quits (mayStep b r) (eqb (length buf) (r .request .length)) r buf m f
 
 starts-none : (filling : Bool) (t : Transfer) (s : Sample) (buf m log : List ℕ) → endsStage s ≡ false → StartsNone (stepOf filling t s buf m log .writes)
-unfolding stepOf
 starts-none f t s buf m log e = record {
-  sie = step-lent-leaves 0x5011_004C sie-other s e (lentFits m log) f t buf m;
-  whom = step-lent-leaves 0x5011_0000 whom-other s e (lentFits m log) f t buf m;
-  epx = step-lent-leaves 0x5010_0100 epx-other s e (lentFits m log) f t buf m;
+  sie = step-every (λ r m v. eqb 0x5011_004C r ≡ false) (goes 0x5011_004C sie-other) f t s buf m log e;
+  whom = step-every (λ r m v. eqb 0x5011_0000 r ≡ false) (goes 0x5011_0000 whom-other) f t s buf m log e;
+  epx = step-every (λ r m v. eqb 0x5010_0100 r ≡ false) (goes 0x5010_0100 epx-other) f t s buf m log e;
 }
 
 ends-none : (filling : Bool) (t : Transfer) (s : Sample) (buf m log : List ℕ) → let u = stepOf filling t s buf m log in ((again : Bool) → u .answer ≡ Waiting again → ⊥) → StartsNone (u .writes)

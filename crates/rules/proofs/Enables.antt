@@ -1,18 +1,21 @@
--- Which interrupts a begin and a step enable. Assumes nothing.
+-- Every write to INTE of a begin, a step, an open and a poll. Assumes nothing.
 use mathlib.Core.Path.{_≡_, refl, ap, sym, _∙_}
-use mathlib.Core.Bool.{Bool, true, false, cond, not, _&&_, true≢false}
+use mathlib.Core.Bool.{Bool, true, false, cond, true≢false}
+use mathlib.Core.Logic.{_⊎_, inl, inr}
 use mathlib.Core.List.{List, [], _∷_, _++_}
-use Prim.Native.Nat.{ℕ, _+_, _*_}
+use Prim.Native.Nat.{ℕ, _+_, _*_, _≤_}
+use native.Mathlib.Omega.{arith}
 use lib.Dec.{eqb, leb, ltb}
 use lib.ListN.{length}
+use borrow.Author.Tests.{ne-eqb}
+use Rattle.pool.specs.declared.pipe.PipeNumber.{PipeNumber}
 use Rattle.cutting.specs.declared.transfer_type.TransferType.{TransferType}
 use Rattle.cutting.specs.declared.transfer_type.TransferType.the-variants.{FixedSize}
-use Rattle.cutting.specs.declared.packetiser.OptionArm.{OptionArm}
-use Rattle.cutting.specs.declared.packetiser.OptionArm.the-variants.{Some, None}
+use Rattle.cutting.specs.declared.packetiser.Arm.{Arm}
 use Rattle.cutting.specs.declared.packetiser.InPacketiser.{InPacketiser}
 use Rattle.cutting.specs.declared.packetiser.OutCounters.{OutCounters}
 use Rattle.cutting.specs.declared.depacketiser.InDepacketiser.{InDepacketiser}
-use Rattle.cutting.specs.Counters.{inStart, outStart, inNext, outNext}
+use Rattle.cutting.specs.Counters.{inStart, outStart}
 use Rattle.transfers.specs.declared.host_controller.DataPhase.{DataPhase}
 use Rattle.transfers.specs.declared.host_controller.DataPhase.the-variants.{In as phaseIn, Out as phaseOut, None as phaseNone}
 use Rattle.transfers.specs.declared.host_controller.TransferExtras.{TransferExtras}
@@ -26,7 +29,11 @@ use Rattle.transfers.specs.declared.sample.Sample.{Sample}
 use Rattle.transfers.specs.declared.sample.Poll.the-variants.{Pending, Ready}
 use Rattle.transfers.specs.declared.sample.Found.{Found}
 use Rattle.transfers.specs.declared.sample.Found.the-variants.{Complete, Failed, Neither}
+use Rattle.transfers.specs.declared.pipes.PipeSample.{PipeSample}
+use Rattle.transfers.specs.declared.driver.Driver.{Driver}
 use Rattle.transfers.specs.declared.driver.Transfer.{Transfer}
+use Rattle.transfers.specs.declared.driver.Transfer.the-variants.{Busy}
+use Rattle.transfers.specs.declared.driver.Run.{Run}
 use Rattle.transfers.specs.declared.driver.Request.{Request}
 use Rattle.transfers.specs.declared.driver.Kind.{Kind}
 use Rattle.transfers.specs.declared.driver.Kind.the-variants.{Control as control, Bulk as bulk}
@@ -40,90 +47,86 @@ use Rattle.transfers.specs.Registers.{bit, weigh}
 use Rattle.transfers.specs.Reply.{stepReply}
 use Rattle.transfers.specs.Sample.{errors, firstOf, classify}
 use Rattle.transfers.specs.Writes.{headWrites, armWrites, enableWrites, goWrites}
-use Rattle.transfers.specs.Arming.{mayArm, inArmed, inArmIf, inArm, inArmTwo, outArmed, outArmIf, outArm, outArmTwo}
+use Rattle.transfers.specs.Arming.{inArmTwo, outArmTwo}
 use Rattle.transfers.specs.Retiring.{InRetiring, inRetireOne}
 use Rattle.transfers.specs.State.{targetOf, dataLength, stageLength, controlOf, addressGood, endpointGood, sizeGood}
 use Rattle.transfers.specs.Outcome.{Outcome, startIn, startOut, entersIn, entersOut}
 use Rattle.transfers.specs.Step.{setupDone, setupStep, inPackets, inReceived, inDone, inSecondDone, inFirstDone, inComplete, inRearm, inSecondMoved, inFirstMoved, inMove, inStep, outPackets, outRetireTwo, outControlDone, outDone, outComplete, outMove, outStep, lent, keeping, stageStep, polls, acts}
 use Rattle.transfers.specs.Calls.{stepOf, fieldsRefusal, beginRefusal, Beginning, beginOr, isIdle, bulkRequest, beginsControl, beginControlOf, beginsBulkIn, beginBulkInOf, beginsBulkOut, beginBulkOutOf}
+use Rattle.transfers.specs.Pipes.{armPipe, opening, polling}
+use Rattle.transfers.specs.Isolation.{heldOf}
+use Rattle.transfers.specs.Apart.{Every}
+use Rattle.transfers.proofs.Apart.{of-open, of-poll}
 use Rattle.rules.specs.Received.{quiet}
 use Rattle.rules.specs.HandsBack.{hasActed}
-use Rattle.rules.specs.Enables.{enabling, sevenFor, dataBytes, stageBytes, stepSets, Enables}
+use Rattle.rules.specs.Enables.{toInte, sevenFor, dataBytes, stageBytes, transferSets, stageClears, stepSets, Enables}
+use Rattle.rules.proofs.Decoded.{in-two-every, out-two-every}
 use Rattle.rules.proofs.Steps.{refused-begun}
 use Rattle.rules.proofs.HandsBack.{by-step}
 
 -- ---- lists of writes
 
-enabling-append : (a b : List Write) → enabling (a ++ b) ≡ enabling a ++ enabling b
-unfolding enabling
-enabling-append [] b = refl
-enabling-append (wr r m v ∷ a) b = by (eqb r 0x5011_0090 && not (eqb v 0)) (enabling-append a b)
+inte-append : (a b : List Write) → toInte (a ++ b) ≡ toInte a ++ toInte b
+unfolding toInte
+inte-append [] b = refl
+inte-append (wr r m v ∷ a) b = by (eqb r 0x5011_0090) (inte-append a b)
   where
-    by : (t : Bool) → enabling (a ++ b) ≡ enabling a ++ enabling b → cond t (wr r m v ∷ enabling (a ++ b)) (enabling (a ++ b)) ≡ cond t (wr r m v ∷ enabling a) (enabling a) ++ enabling b
+    by : (t : Bool) → toInte (a ++ b) ≡ toInte a ++ toInte b → cond t (wr r m v ∷ toInte (a ++ b)) (toInte (a ++ b)) ≡ cond t (wr r m v ∷ toInte a) (toInte a) ++ toInte b
     by true h = ap (λ (ws : List Write). wr r m v ∷ ws) h
     by false h = h
 
 -- Nothing, then these.
-then : (a b : List Write) {ws : List Write} → enabling a ≡ [] → enabling b ≡ ws → enabling (a ++ b) ≡ ws
-then a b p q = enabling-append a b ∙ ap (λ (l : List Write). l ++ enabling b) p ∙ q
+then : (a b : List Write) {ws : List Write} → toInte a ≡ [] → toInte b ≡ ws → toInte (a ++ b) ≡ ws
+then a b p q = inte-append a b ∙ ap (λ (l : List Write). l ++ toInte b) p ∙ q
 
 -- ---- blocks
 
 -- k is the length by which the code goes, n the stage's bytes.
-stage-enables : (p n k : ℕ) → n ≡ k → (ws : List Write) → enabling ws ≡ [] → enabling (enableWrites p k ++ ws) ≡ sevenFor p n
-unfolding enabling enableWrites
-stage-enables p n k e ws h = ap (λ (j : ℕ). enabling (enableWrites p j ++ ws)) (sym e) ∙ by (leb (2 * p) n)
+stage-enables : (p n k : ℕ) → n ≡ k → (ws : List Write) → toInte ws ≡ [] → toInte (enableWrites p k ++ ws) ≡ sevenFor p n
+unfolding toInte enableWrites
+stage-enables p n k e ws h = ap (λ (j : ℕ). toInte (enableWrites p j ++ ws)) (sym e) ∙ by (leb (2 * p) n)
   where
-    by : (t : Bool) → let v = 0x7E8 + weigh t 0x10 in cond (not (eqb v 0)) (wr 0x5011_0090 v v ∷ enabling ws) (enabling ws) ≡ wr 0x5011_0090 (cond t 0x7F8 0x7E8) (cond t 0x7F8 0x7E8) ∷ []
+    by : (t : Bool) → let v = 0x7E8 + weigh t 0x10 in wr 0x5011_0090 v v ∷ toInte ws ≡ wr 0x5011_0090 (cond t 0x7F8 0x7E8) (cond t 0x7F8 0x7E8) ∷ []
     by true = ap (λ (l : List Write). wr 0x5011_0090 0x7F8 0x7F8 ∷ l) h
     by false = ap (λ (l : List Write). wr 0x5011_0090 0x7E8 0x7E8 ∷ l) h
 
-in-arm-none : (w : ℕ) (c : InPacketiser) (k : ℕ) → enabling (inArm w c k .writes) ≡ []
-unfolding enabling inArm armWrites
-in-arm-none w c k = by (mayArm w k (c .slot))
-  where
-    armed : (o : OptionArm) (d : InPacketiser) → enabling (inArmed o d k .writes) ≡ []
-    armed None d = refl
-    armed (Some a) d = refl
+-- Writes to other registers.
+elsewhere : (ws : List Write) → Every (λ r m v. eqb r 0x5011_0090 ≡ false) ws → toInte ws ≡ []
+unfolding toInte
+elsewhere [] h = refl
+elsewhere (wr r m v ∷ ws) h = ap (λ (t : Bool). cond t (wr r m v ∷ toInte ws) (toInte ws)) (h .0) ∙ elsewhere ws (h .1)
 
-    by : (b : Bool) → enabling (inArmIf b c k .writes) ≡ []
-    by false = refl
-    by true = armed (inNext c .arm) (inNext c .rest)
+arm-elsewhere : (f : Bool) (a : Arm) → Every (λ r m v. eqb r 0x5011_0090 ≡ false) (armWrites f a)
+unfolding armWrites
+arm-elsewhere f a = (refl, (refl, (refl, tt)))
 
-in-two-none : (w : ℕ) (c : InPacketiser) (k : ℕ) → enabling (inArmTwo w c k .writes) ≡ []
-unfolding inArmTwo
-in-two-none w c k = let g = inArm w c k in then _ _ (in-arm-none w c k) (in-arm-none w (g .packets) (g .inflight))
+in-two-none : (w : ℕ) (c : InPacketiser) (k : ℕ) → toInte (inArmTwo w c k .writes) ≡ []
+in-two-none w c k = elsewhere (inArmTwo w c k .writes) (in-two-every (λ r m v. eqb r 0x5011_0090 ≡ false) arm-elsewhere w c k)
 
-out-arm-none : (w : ℕ) (c : OutCounters) (k : ℕ) (buf m : List ℕ) → enabling (outArm w c k buf m .writes) ≡ []
-unfolding enabling outArm armWrites
-out-arm-none w c k buf m = by (mayArm w k (c .slot))
-  where
-    armed : (o : OptionArm) (d : OutCounters) → enabling (outArmed o d k (c .offset) buf m .writes) ≡ []
-    armed None d = refl
-    armed (Some a) d = refl
-
-    by : (b : Bool) → enabling (outArmIf b c k buf m .writes) ≡ []
-    by false = refl
-    by true = armed (outNext c .arm) (outNext c .rest)
-
-out-two-none : (w : ℕ) (c : OutCounters) (k : ℕ) (buf m : List ℕ) → enabling (outArmTwo w c k buf m .writes) ≡ []
-unfolding outArmTwo
-out-two-none w c k buf m = let g = outArm w c k buf m in then _ _ (out-arm-none w c k buf m) (out-arm-none w (g .packets) (g .inflight) buf (g .memory))
+out-two-none : (w : ℕ) (c : OutCounters) (k : ℕ) (buf m : List ℕ) → toInte (outArmTwo w c k buf m .writes) ≡ []
+out-two-none w c k buf m = elsewhere (outArmTwo w c k buf m .writes) (out-two-every (λ r m v. eqb r 0x5011_0090 ≡ false) arm-elsewhere w c k buf m)
 
 -- ---- stages that begin: of k bytes by the code, of n by the statement
 
-start-in-sets : (t : Target) (k : TransferType) (s : Bool) (n b : ℕ) → b ≡ n → enabling (startIn t k s n .writes) ≡ sevenFor (t .size) b
-unfolding enabling startIn headWrites goWrites
+start-in-sets : (t : Target) (k : TransferType) (s : Bool) (n b : ℕ) → b ≡ n → toInte (startIn t k s n .writes) ≡ sevenFor (t .size) b
+unfolding toInte startIn headWrites goWrites
 start-in-sets t k s n b e = then (inArmTwo 0 (inStart k (t .size) (t .pid) n) 0 .writes) (enableWrites (t .size) n ++ goWrites In) (in-two-none 0 (inStart k (t .size) (t .pid) n) 0) (stage-enables (t .size) b n e (goWrites In) refl)
 
-start-out-sets : (t : Target) (k : TransferType) (s : Bool) (r n : ℕ) (buf m : List ℕ) (b : ℕ) → b ≡ n → enabling (startOut t k s r n buf m .writes) ≡ sevenFor (t .size) b
-unfolding enabling startOut headWrites goWrites
+start-out-sets : (t : Target) (k : TransferType) (s : Bool) (r n : ℕ) (buf m : List ℕ) (b : ℕ) → b ≡ n → toInte (startOut t k s r n buf m .writes) ≡ sevenFor (t .size) b
+unfolding toInte startOut headWrites goWrites
 start-out-sets t k s r n buf m b e = then (outArmTwo 0 (outStart k (t .size) (t .pid) n) 0 buf m .writes) (enableWrites (t .size) n ++ goWrites Out) (out-two-none 0 (outStart k (t .size) (t .pid) n) 0 buf m) (stage-enables (t .size) b n e (goWrites Out) refl)
 
 -- ---- steps, by the state that they leave
 
 abbrev Sets : Outcome → Type 0
-Sets o = enabling (o .writes) ≡ stepSets false (o .next)
+Sets o = toInte (o .writes) ≡ transferSets (o .next)
+
+-- The same of a step with a ready poll.
+abbrev Clears : Stage → Outcome → Type 0
+Clears st o = toInte (o .writes) ≡ stageClears st ++ transferSets (o .next)
+
+abbrev off : List Write → List Write
+off ws = wr 0x5011_0090 0x7E8 0 ∷ ws
 
 same-bytes : (x : Request) (status : Bool) → stageBytes x status ≡ stageLength x status
 same-bytes x true = refl
@@ -134,8 +137,8 @@ same-bytes x false = by (x .kind)
     by (bulk c) = refl
 
 -- A stage that goes on: its arming enables none.
-moves-sets : (x : Request) (status : Bool) (ws : List Write) → enabling ws ≡ [] → enabling (ws ++ enableWrites (x .size) (stageLength x status)) ≡ sevenFor (x .size) (stageBytes x status)
-unfolding enabling enableWrites
+moves-sets : (x : Request) (status : Bool) (ws : List Write) → toInte ws ≡ [] → toInte (ws ++ enableWrites (x .size) (stageLength x status)) ≡ sevenFor (x .size) (stageBytes x status)
+unfolding toInte enableWrites
 moves-sets x status ws h =
     let n = stageLength x status in
     then ws (enableWrites (x .size) n) h (stage-enables (x .size) (stageBytes x status) n (same-bytes x status) [] refl)
@@ -149,7 +152,7 @@ unfolding startOut
 enters-out-sets x s r n bytes m buf e = start-out-sets (targetOf x) FixedSize s r n bytes m (stageBytes x s) e
 
 setup-done-sets : (ph : DataPhase) (b : Bool) (x : Request) (n : ℕ) (buf m : List ℕ) → stageBytes x false ≡ n → Sets (setupDone ph b x n buf m)
-unfolding enabling
+unfolding toInte
 setup-done-sets phaseIn true x n buf m e = refl
 setup-done-sets phaseIn false x n buf m e = enters-in-sets x false n m buf e
 setup-done-sets phaseOut true x n buf m e = refl
@@ -157,7 +160,7 @@ setup-done-sets phaseOut false x n buf m e = enters-out-sets x false 0 n buf m b
 setup-done-sets phaseNone b x n buf m e = enters-in-sets x true 0 m buf refl
 
 setup-step-sets : (f : Found) (x : Request) (buf m : List ℕ) → Sets (setupStep f x buf m)
-unfolding enabling setupStep
+unfolding toInte setupStep
 setup-step-sets Complete x buf m = by (x .kind) refl
   where
     by : (k : Kind) → x .kind ≡ k → let c = controlOf k in Sets (setupDone (c .phase) (ltb (x .length) (c .wLength)) x (c .wLength) buf m)
@@ -167,13 +170,13 @@ setup-step-sets (Failed e) x buf m = refl
 setup-step-sets Neither x buf m = refl
 
 in-done-sets : (k : Kind) (status : Bool) (x : Request) (d : InDepacketiser) (m buf : List ℕ) → Sets (inDone k status x d m buf)
-unfolding enabling
+unfolding toInte
 in-done-sets (control c) true x d m buf = refl
 in-done-sets (control c) false x d m buf = enters-out-sets x true (d .offset) 0 [] m buf refl
 in-done-sets (bulk c) status x d m buf = refl
 
 in-complete-sets : (x : Request) (st : InStage) (w : ℕ) (buf m : List ℕ) → Sets (inComplete x st w buf m)
-unfolding enabling inComplete
+unfolding toInte inComplete
 in-complete-sets x st w buf m = first (g .long)
   where
     g : InRetiring
@@ -191,7 +194,7 @@ in-complete-sets x st w buf m = first (g .long)
     first false = second (h .long)
 
 in-move-sets : (x : Request) (st : InStage) (w : ℕ) (buf m : List ℕ) → Sets (inMove x st w buf m)
-unfolding enabling inMove inRearm
+unfolding toInte inMove inRearm
 in-move-sets x st w buf m = first (g .long)
   where
     g : InRetiring
@@ -208,14 +211,14 @@ in-move-sets x st w buf m = first (g .long)
     first true = refl
     first false = second (h .long)
 
-in-step-sets : (f : Found) (x : Request) (st : InStage) (w : ℕ) (buf m : List ℕ) → Sets (inStep f x st w buf m)
-unfolding enabling inStep
-in-step-sets Complete x st w buf m = in-complete-sets x st w buf m
+in-step-sets : (f : Found) (x : Request) (st : InStage) (w : ℕ) (buf m : List ℕ) → Clears (inStage st) (inStep f x st w buf m)
+unfolding toInte inStep
+in-step-sets Complete x st w buf m = ap off (in-complete-sets x st w buf m)
 in-step-sets (Failed e) x st w buf m = refl
-in-step-sets Neither x st w buf m = in-move-sets x st w buf m
+in-step-sets Neither x st w buf m = ap off (in-move-sets x st w buf m)
 
 out-done-sets : (k : Kind) (x : Request) (st : OutStage) (parity : Bool) (m buf : List ℕ) → Sets (outDone k x st parity m buf)
-unfolding enabling
+unfolding toInte
 out-done-sets (control c) x st parity m buf = by (st .status)
   where
     by : (b : Bool) → Sets (outControlDone b x (st .received) m buf)
@@ -223,57 +226,58 @@ out-done-sets (control c) x st parity m buf = by (st .status)
     by false = enters-in-sets x true 0 m buf refl
 out-done-sets (bulk c) x st parity m buf = refl
 
-out-step-sets : (f : Found) (x : Request) (st : OutStage) (w : ℕ) (buf m : List ℕ) → Sets (outStep f x st w buf m)
-unfolding enabling outStep outComplete outMove
-out-step-sets Complete x st w buf m = out-done-sets (x .kind) x st (outRetireTwo w (st .retire) (st .inflight) .parity) m buf
+out-step-sets : (f : Found) (x : Request) (st : OutStage) (w : ℕ) (buf m : List ℕ) → Clears (outStage st) (outStep f x st w buf m)
+unfolding toInte outStep outComplete outMove
+out-step-sets Complete x st w buf m = ap off (out-done-sets (x .kind) x st (outRetireTwo w (st .retire) (st .inflight) .parity) m buf)
 out-step-sets (Failed e) x st w buf m = refl
 out-step-sets Neither x st w buf m =
     let k = outRetireTwo w (st .retire) (st .inflight) .inflight in
-    moves-sets x (st .status) (outArmTwo w (outPackets x st) k buf m .writes) (out-two-none w (outPackets x st) k buf m)
+    ap off (moves-sets x (st .status) (outArmTwo w (outPackets x st) k buf m .writes) (out-two-none w (outPackets x st) k buf m))
 
-keeping-sets : (b : Bool) (buf : List ℕ) (o : Outcome) → Sets o → Sets (keeping b buf o)
-keeping-sets true buf o h = h
-keeping-sets false buf o h = h
+keeping-sets : (st : Stage) (b : Bool) (buf : List ℕ) (o : Outcome) → Clears st o → Clears st (keeping b buf o)
+keeping-sets st true buf o h = h
+keeping-sets st false buf o h = h
 
-stage-sets : (f : Found) (x : Request) (st : Stage) (w : ℕ) (buf m : List ℕ) → Sets (stageStep f x st w buf m)
+stage-sets : (f : Found) (x : Request) (st : Stage) (w : ℕ) (buf m : List ℕ) → Clears st (stageStep f x st w buf m)
 stage-sets f x setupStage w buf m = setup-step-sets f x buf m
-stage-sets f x (inStage st) w buf m = keeping-sets (st .status) buf (inStep f x st w (lent (st .status) buf) m) (in-step-sets f x st w (lent (st .status) buf) m)
-stage-sets f x (outStage st) w buf m = keeping-sets (st .status) buf (outStep f x st w (lent (st .status) buf) m) (out-step-sets f x st w (lent (st .status) buf) m)
+stage-sets f x (inStage st) w buf m = keeping-sets (inStage st) (st .status) buf (inStep f x st w (lent (st .status) buf) m) (in-step-sets f x st w (lent (st .status) buf) m)
+stage-sets f x (outStage st) w buf m = keeping-sets (outStage st) (st .status) buf (outStep f x st w (lent (st .status) buf) m) (out-step-sets f x st w (lent (st .status) buf) m)
 
-acts-sets : (x : Request) (st : Stage) (s : Sample) (buf m : List ℕ) → let o = acts x st s buf m in enabling (o .writes) ≡ stepSets (quiet s) (o .next)
-unfolding enabling acts classify
-acts-sets x st s buf m = by (quiet s)
+acts-sets : (r : Run) (s : Sample) (buf m : List ℕ) → let o = acts (r .request) (r .stage) s buf m in toInte (o .writes) ≡ stepSets (quiet s) (Busy r) (o .next)
+unfolding toInte acts classify
+acts-sets r s buf m = by (quiet s)
   where
     f : Found
     f = cond (bit 18 (s .status)) Complete (firstOf (s .status) errors)
 
-    by : (q : Bool) → let o = polls (cond q Pending (Ready f)) x st (s .buffers) buf m in enabling (o .writes) ≡ stepSets q (o .next)
+    by : (q : Bool) → let o = polls (cond q Pending (Ready f)) (r .request) (r .stage) (s .buffers) buf m in toInte (o .writes) ≡ stepSets q (Busy r) (o .next)
     by true = refl
-    by false = stage-sets f x st (s .buffers) buf m
+    by false = stage-sets f (r .request) (r .stage) (s .buffers) buf m
 
 step-sets : (filling : Bool) (t : Transfer) (s : Sample) (buf m log : List ℕ)
-    → let o = stepOf filling t s buf m log in hasActed (stepReply (o .answer)) ≡ true → enabling (o .writes) ≡ stepSets (quiet s) (o .next)
+    → let o = stepOf filling t s buf m log in hasActed (stepReply (o .answer)) ≡ true → toInte (o .writes) ≡ stepSets (quiet s) t (o .next)
 step-sets filling t s buf m log =
-    by-step (λ (o : Outcome). hasActed (stepReply (o .answer)) ≡ true → enabling (o .writes) ≡ stepSets (quiet s) (o .next)) filling t s buf m log
-    (λ h. absurd (true≢false (sym h))) (λ h. absurd (true≢false (sym h))) (λ r e h. acts-sets (r .request) (r .stage) s buf m)
+    by-step (λ (o : Outcome). hasActed (stepReply (o .answer)) ≡ true → toInte (o .writes) ≡ stepSets (quiet s) t (o .next)) filling t s buf m log
+    (λ h. absurd (true≢false (sym h))) (λ h. absurd (true≢false (sym h)))
+    (λ r e h. let o = acts (r .request) (r .stage) s buf m in acts-sets r s buf m ∙ ap (λ (u : Transfer). stepSets (quiet s) u (o .next)) (sym e))
 
 -- ---- begins
 
-begun-sets : (r : OptionRefusal) (t : Transfer) (m : List ℕ) (b : Beginning) (ws : List Write) → enabling (b .writes) ≡ ws → beginOr r t m b .answer ≡ Begun → enabling (beginOr r t m b .writes) ≡ ws
+begun-sets : (r : OptionRefusal) (t : Transfer) (m : List ℕ) (b : Beginning) (ws : List Write) → toInte (b .writes) ≡ ws → beginOr r t m b .answer ≡ Begun → toInte (beginOr r t m b .writes) ≡ ws
 begun-sets (refused e) t m b ws h said = refused-begun e said
 begun-sets accepted t m b ws h said = h
 
-control-none : (r : OptionRefusal) (t : Transfer) (a : ℕ) (x : TransferExtras) (p : ℕ) (s : SetupPacket) (ph : DataPhase) (n : ℕ) (m : List ℕ) → enabling (beginOr r t m (beginsControl a x p s ph n m) .writes) ≡ []
-unfolding enabling
+control-none : (r : OptionRefusal) (t : Transfer) (a : ℕ) (x : TransferExtras) (p : ℕ) (s : SetupPacket) (ph : DataPhase) (n : ℕ) (m : List ℕ) → toInte (beginOr r t m (beginsControl a x p s ph n m) .writes) ≡ []
+unfolding toInte
 control-none (refused e) t a x p s ph n m = refl
 control-none accepted t a x p s ph n m = refl
 
-begin-control-sets : (t : Transfer) (a : ℕ) (x : TransferExtras) (p : ℕ) (s : SetupPacket) (ph : DataPhase) (buf m log : List ℕ) → enabling (beginControlOf t a x p s ph buf m log .writes) ≡ []
+begin-control-sets : (t : Transfer) (a : ℕ) (x : TransferExtras) (p : ℕ) (s : SetupPacket) (ph : DataPhase) (buf m log : List ℕ) → toInte (beginControlOf t a x p s ph buf m log .writes) ≡ []
 unfolding beginControlOf
 begin-control-sets t a x p s ph buf m log = control-none (beginRefusal (lentFits m log) (isIdle t) (fieldsRefusal (addressGood a) true (sizeGood p) true)) t a x p s ph (length buf) m
 
 begin-bulk-in-sets : (t : Transfer) (a e p : ℕ) (k : TransferType) (b : Bool) (buf m log : List ℕ)
-    → let o = beginBulkInOf t a e p k b buf m log in o .answer ≡ Begun → enabling (o .writes) ≡ sevenFor p (length buf)
+    → let o = beginBulkInOf t a e p k b buf m log in o .answer ≡ Begun → toInte (o .writes) ≡ sevenFor p (length buf)
 unfolding beginBulkInOf
 begin-bulk-in-sets t a e p k b buf m log =
     let x = bulkRequest In a e p b (length buf) in
@@ -281,12 +285,29 @@ begin-bulk-in-sets t a e p k b buf m log =
     (start-in-sets (targetOf x) k false (length buf) (length buf) refl)
 
 begin-bulk-out-sets : (t : Transfer) (a e p : ℕ) (k : TransferType) (b : Bool) (buf m log : List ℕ)
-    → let o = beginBulkOutOf t a e p k b buf m log in o .answer ≡ Begun → enabling (o .writes) ≡ sevenFor p (length buf)
+    → let o = beginBulkOutOf t a e p k b buf m log in o .answer ≡ Begun → toInte (o .writes) ≡ sevenFor p (length buf)
 unfolding beginBulkOutOf
 begin-bulk-out-sets t a e p k b buf m log =
     let x = bulkRequest Out a e p b (length buf) in
     begun-sets (beginRefusal (lentFits m log) (isIdle t) (fieldsRefusal (addressGood a) (endpointGood e) (sizeGood p) (leb (length buf) 0xFFFF))) t m (beginsBulkOut x e k buf m) (sevenFor p (length buf))
     (start-out-sets (targetOf x) k false 0 (length buf) buf m (length buf) refl)
+
+-- ---- pipes
+
+arm-pipe-none : (n : ℕ) (t : Bool) (p : ℕ) → n ≤ 15 → toInte (armPipe n t p) ≡ []
+unfolding toInte
+arm-pipe-none n t p h = rw (ne-eqb (0x5010_0080 + 8 * n) 0x5011_0090 (λ e. omega arith))
+
+open-none : (d : Driver) (address : ℕ) (extras : TransferExtras) (endpoint size interval : ℕ) (log : List ℕ) → toInte (opening d address extras endpoint size interval log .writes) ≡ []
+unfolding toInte
+open-none d address extras endpoint size interval log =
+    of-open (λ (ws : List Write). toInte ws ≡ []) d address extras endpoint size interval log refl
+    (λ n h k p. rw (ne-eqb (0x5011_0000 + 4 * n) 0x5011_0090 (λ e. omega arith), ne-eqb (0x5010_0000 + 8 * n) 0x5011_0090 (λ e. omega arith), arm-pipe-none n false size k))
+
+poll-sets : (d : Driver) (n : PipeNumber) (s : PipeSample) (pm log : List ℕ) → let ws = polling d n s pm log .writes in (toInte ws ≡ []) ⊎ (toInte ws ≡ wr 0x5011_0090 0x10 0x10 ∷ [])
+unfolding toInte
+poll-sets d n s pm log =
+    of-poll (λ (ws : List Write). (toInte ws ≡ []) ⊎ (toInte ws ≡ wr 0x5011_0090 0x10 0x10 ∷ [])) d n s pm log (inl refl) (λ h k. inr refl) (λ t h k. inl (arm-pipe-none (n .0) t (heldOf (d .pipes) n .size) k))
 
 pub enables-seven : Enables
 enables-seven = record {
@@ -294,4 +315,6 @@ enables-seven = record {
   beginBulkIn = begin-bulk-in-sets;
   beginBulkOut = begin-bulk-out-sets;
   step = step-sets;
+  opens = open-none;
+  poll = poll-sets;
 }

@@ -2,8 +2,7 @@
 use mathlib.Core.Path.{_≡_, refl, sym, ap, _∙_}
 use mathlib.Core.Bool.{Bool, true, false}
 use Prim.Native.Nat.{ℕ, _+_, _*_, _-_, _/_, _%_, _^_}
-use native.Mathlib.Nat.{mod-mod}
-use lib.Bits.{bitAnd, bitOr, or-shr, or-mod, and-shr, and-mod, and-zero-r, or-zero-l, or-zero-r, and-mask}
+use lib.Bits.{bitOr, and-zero-r, or-zero-l}
 use lib.Pow.{shr-shr, shl-shr}
 use lib.Dec.{eqb}
 use Rattle.transfers.specs.Registers.{field, ones, weigh}

@@ -57,6 +57,7 @@ use Rattle.transfers.specs.Log.{Write, wr}
 use Rattle.transfers.specs.Memory.{logFits, lentFits}
 use Rattle.transfers.specs.Refusal.{errorNumber, numberOf}
 use Rattle.transfers.specs.Registers.{bit}
+use Rattle.transfers.specs.Writes.{armWrites, enableWrites}
 use Rattle.transfers.specs.Reply.{Reply, result, number, beginReply, StepResult, waiting, done, stepReply, cancelReply, openReply, closeReply, packet, noPacket, pollReply, irqReply, changed, unchanged, detectReply}
 use Rattle.transfers.specs.Sample.{errors, firstOf, classify}
 use Rattle.transfers.specs.Retiring.{InRetiring, inRetireOne}
@@ -71,6 +72,7 @@ use Rattle.transfers.specs.Detect.{statusAt, statusOf, sameStatus, detectingIf,
 use Rattle.transfers.proofs.Statuses.{same-status, other-status}
 use Rattle.transfers.proofs.Untouched.{open-refused, close-refused, poll-refused, detect-refused}
 use Rattle.rules.specs.Received.{quiet}
+use Rattle.rules.proofs.GoesOn.{GoesOn, step-every}
 use Rattle.rules.specs.HandsBack.{LeavesAlone, HandsOn, noneArmed, endsTransfer, hasActed, BeginUntouched, StepUntouched, RefusedUntouched, kindToggle, cameWith, KeepsToggle, Frees, clearsStatus, enablesWaiting, StepWrites, areaBytes, lengthOut, PollHandsOut, atSpeed, statusShown, clearsBuffers, HandsBack}
 
 leaves-alone : LeavesAlone
@@ -469,9 +471,20 @@ first-write filling t s buf m log =
     by-step (λ (o : Outcome). hasActed (stepReply (o .answer)) ≡ true → take 1 (o .writes) ≡ clearsStatus ∷ []) filling t s buf m log
     (λ a. absurd (true≢false (sym a))) (λ a. absurd (true≢false (sym a))) (λ r e a. acts-first (r .request) (r .stage) s buf m)
 
+-- A write to SIE_STATUS doesn't clear TRANS_COMPLETE; of the other registers nothing is asked.
+uncleared-goes : GoesOn (λ r n v. r ≡ 0x5011_0050 → bit 18 v ≡ false)
+unfolding armWrites enableWrites
+uncleared-goes = record {
+  arm = λ f a. (λ e. absurd (omega arith), (λ e. absurd (omega arith), (λ e. absurd (omega arith), tt)));
+  enable = λ p n. (λ e. refl, (λ e. absurd (omega arith), (λ e. absurd (omega arith), tt)));
+  poll = λ e. refl;
+  wait = λ e. absurd (omega arith);
+  quiet = (λ e. absurd (omega arith), (λ e. absurd (omega arith), tt));
+}
+
 step-writes : StepWrites
 unfolding QuietStep
-step-writes = record { quietly = quietly; first = first-write }
+step-writes = record { quietly = quietly; first = first-write; uncleared = λ f t s buf m log e. step-every (λ r n v. r ≡ 0x5011_0050 → bit 18 v ≡ false) uncleared-goes f t s buf m log e }
 
 -- ---- poll
 

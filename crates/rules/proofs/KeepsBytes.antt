@@ -51,7 +51,7 @@ use Rattle.transfers.specs.Registers.{bit}
 use Rattle.transfers.specs.Reply.{Reply, result, number, StepResult, stepReply}
 use Rattle.transfers.specs.Sample.{errors, firstOf, classify, full, lengthIn}
 use Rattle.transfers.specs.Retiring.{InRetiring, inTaken, inRetireIf, inRetireOne}
-use Rattle.transfers.specs.Ready.{Within, InIsStatus}
+use Rattle.transfers.specs.Ready.{InIsStatus}
 use Rattle.transfers.specs.State.{controlOf, targetOf, addressGood, endpointGood, sizeGood}
 use Rattle.transfers.specs.Outcome.{Outcome, startIn}
 use Rattle.transfers.specs.Step.{setupDone, setupStep, inReceived, inDone, inSecondDone, inFirstDone, inComplete, inSecondMoved, inFirstMoved, inRearm, inMove, inStep, outRetireTwo, outControlDone, outDone, outComplete, outMove, outStep, lent, keeping, stageStep, polls, acts}
@@ -59,7 +59,7 @@ use Rattle.transfers.specs.Calls.{refuses, stepIf, mayStep, stepLent, stepOf, w
 use Rattle.transfers.proofs.OpenPipes.{between, lent-sizes}
 use Rattle.transfers.proofs.Beginnings.{none-fields, bulk-good}
 use Rattle.transfers.proofs.WellFormed.{step-well, begin-bulk-in-well}
-use Rattle.transfers.proofs.Readiness.{both, sound-within, served-status, may-parts}
+use Rattle.transfers.proofs.Readiness.{sound-within, served-status, may-parts}
 use Rattle.rules.specs.Fields.{readBufferControl}
 use Rattle.rules.specs.Received.{slotOf, StepCall, packetAt, Tally, tallyStep, tallied, tallyStart, received, controlReceived, Running, stepIn, afterStep, afterSteps, Moved}
 use Rattle.rules.specs.KeepsBytes.{packetStored, bufferBy, bufferAtNine, packetsBy, packetsAtNine, isInStage, receiving, inStageAt, KeepsBytes}

@@ -16,6 +16,7 @@ pub mod Free
 pub mod Outside
 pub mod Writes
 pub mod Sends
+pub mod GoesOn
 pub mod ControlStages
 pub mod PacketRules
 pub mod AllOpen

@@ -32,7 +32,9 @@ use Rattle.transfers.specs.Pipes.{opening, closing, polling}
 use Rattle.transfers.specs.Irq.{waking}
 use Rattle.transfers.specs.Detect.{detecting}
 use Rattle.transfers.specs.Reply.{Reply, result, number, beginReply, StepResult, waiting, done, stepReply, cancelReply, openReply, closeReply, packet, noPacket, pollReply, irqReply, changed, unchanged, detectReply}
-use Rattle.rules.specs.Received.{quiet}
+use Rattle.transfers.specs.Registers.{bit}
+use Rattle.transfers.specs.Apart.{Every}
+use Rattle.rules.specs.Received.{quiet, endsStage}
 
 -- ---- the parts of the state that a call has nothing to do with
 
@@ -166,6 +168,8 @@ pub record StepWrites : Type 0 where
   -- "Else the same SIE_STATUS write is made": first.
   pub first : (filling : Bool) (t : Transfer) (s : Sample) (buf m log : List ℕ)
       → let o = stepOf filling t s buf m log in hasActed (stepReply (o .answer)) ≡ true → take 1 (o .writes) ≡ clearsStatus ∷ []
+  -- "TRANS_COMPLETE: that is bit 18": a step that doesn't end its stage by it doesn't clear it, so that none is lost.
+  pub uncleared : (filling : Bool) (t : Transfer) (s : Sample) (buf m log : List ℕ) → endsStage s ≡ false → Every (λ r n v. r ≡ 0x5011_0050 → bit 18 v ≡ false) (stepOf filling t s buf m log .writes)
 
 -- ---- poll
 
