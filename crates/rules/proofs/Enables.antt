@@ -106,7 +106,7 @@ in-two-none w c k = elsewhere (inArmTwo w c k .writes) (in-two-every (λ r m v. 
 out-two-none : (w : ℕ) (c : OutCounters) (k : ℕ) (buf m : List ℕ) → toInte (outArmTwo w c k buf m .writes) ≡ []
 out-two-none w c k buf m = elsewhere (outArmTwo w c k buf m .writes) (out-two-every (λ r m v. eqb r 0x5011_0090 ≡ false) arm-elsewhere w c k buf m)
 
--- ---- stages that begin: of k bytes by the code, of n by the statement
+-- ---- stages that begin: of n bytes by the code, of b by the statement
 
 start-in-sets : (t : Target) (k : TransferType) (s : Bool) (n b : ℕ) → b ≡ n → toInte (startIn t k s n .writes) ≡ sevenFor (t .size) b
 unfolding toInte startIn headWrites goWrites

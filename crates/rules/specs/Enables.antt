@@ -36,12 +36,12 @@ toInte [] = []
 toInte (wr r m v ∷ ws) = cond (eqb r 0x5011_0090) (wr r m v ∷ toInte ws) (toInte ws)
 
 -- One write, which sets these bits and leaves the others.
-abbrev pub sets : ℕ → List Write
-sets v = wr 0x5011_0090 v v ∷ []
+abbrev pub inteSets : ℕ → List Write
+inteSets v = wr 0x5011_0090 v v ∷ []
 
 -- The seven, and BUFF_STATUS (bit 4) exactly where n bytes are two packets' size or more.
 abbrev pub sevenFor : ℕ → ℕ → List Write
-sevenFor p n = sets (cond (leb (2 * p) n) 0x7F8 0x7E8)
+sevenFor p n = inteSets (cond (leb (2 * p) n) 0x7F8 0x7E8)
 
 -- The bytes of a data stage: wLength, or the bulk buffer's n.
 abbrev pub dataBytes : Kind → ℕ → ℕ
@@ -77,7 +77,7 @@ transferClears (Busy r) = stageClears (r .stage)
 
 -- A step on t that leaves u, by whether its sample is quiet: then it waits, and sets the seven alone.
 abbrev pub stepSets : Bool → Transfer → Transfer → List Write
-stepSets true t u = sets 0x7E8
+stepSets true t u = inteSets 0x7E8
 stepSets false t u = transferClears t ++ transferSets u
 
 -- Every write to INTE of every begin, step, open and poll, on any state and whatever is lent. Those of detection and of the interrupt routine are in `HandsBack`; a begin
@@ -93,4 +93,4 @@ pub record Enables : Type 0 where
       → let o = stepOf filling t s buf m log in hasActed (stepReply (o .answer)) ≡ true → toInte (o .writes) ≡ stepSets (quiet s) t (o .next)
   -- So that no pipe turns off what a transfer waits for.
   pub opens : (d : Driver) (address : ℕ) (extras : TransferExtras) (endpoint size interval : ℕ) (log : List ℕ) → toInte (opening d address extras endpoint size interval log .writes) ≡ []
-  pub poll : (d : Driver) (n : PipeNumber) (s : PipeSample) (pm log : List ℕ) → let ws = polling d n s pm log .writes in (toInte ws ≡ []) ⊎ (toInte ws ≡ sets 0x10)
+  pub poll : (d : Driver) (n : PipeNumber) (s : PipeSample) (pm log : List ℕ) → let ws = polling d n s pm log .writes in (toInte ws ≡ []) ⊎ (toInte ws ≡ inteSets 0x10)
