@@ -2,6 +2,7 @@
 
 use crate::generate::{generate, Kind};
 use crate::replay;
+use crate::script::DeskRule;
 use std::io::{self, Write};
 use std::process::{Command, Output, Stdio};
 use std::thread;
@@ -15,6 +16,7 @@ pub fn compare(
     program: &str,
     seed: u64,
     calls: u64,
+    rule: DeskRule,
     out: &mut impl Write,
 ) -> io::Result<bool> {
     let run = RUN.min(calls.div_ceil(Kind::ALL.len() as u64));
@@ -26,7 +28,7 @@ pub fn compare(
                 return Ok(true);
             }
             let mut script = Vec::new();
-            let played = generate(seed, run, kind, &mut script)?;
+            let played = generate(seed, run, kind, rule, &mut script)?;
             let what = format!("{} {seed}: {played} calls", kind.name());
             if let Some(difference) = difference(program, &script)? {
                 writeln!(out, "{what}, different\n{difference}")?;

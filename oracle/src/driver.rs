@@ -19,15 +19,29 @@ use std::task::{Context, Poll, Waker};
 pub enum Answer {
     Ok,
     Begun,
-    Waiting { again: bool },
-    Done { count: usize, toggle: Option<bool> },
+    Waiting {
+        again: bool,
+    },
+    Done {
+        count: usize,
+        toggle: Option<bool>,
+    },
     Refused(u8),
-    Failed(u8),
-    Cancelled,
+    /// A bulk transfer's toggle as the Rust left it, here and in `Cancelled`.
+    Failed {
+        number: u8,
+        toggle: Option<bool>,
+    },
+    Cancelled {
+        toggle: Option<bool>,
+    },
     Closed,
     Pipe(u8),
     Packet(InterruptPacket),
-    Wake { pipes: u16, detection: bool },
+    Wake {
+        pipes: u16,
+        detection: bool,
+    },
     Device(DeviceStatus),
 }
 
@@ -126,7 +140,10 @@ impl Driver {
                 count,
                 toggle: transfer.toggle(),
             },
-            Poll::Ready(Err(number)) => Answer::Failed(number),
+            Poll::Ready(Err(number)) => Answer::Failed {
+                number,
+                toggle: transfer.toggle(),
+            },
         };
         if polled.is_ready() {
             self.transfer = None;
@@ -138,8 +155,8 @@ impl Driver {
     pub fn cancel(&mut self) -> Result<Answer, u8> {
         // Document 01, "step, cancel": 16, nothing under way.
         let transfer = self.transfer.take().ok_or(rules::NOTHING_TO_SERVE)?;
-        drop(transfer);
-        Ok(Answer::Cancelled)
+        let toggle = transfer.toggle_after_drop();
+        Ok(Answer::Cancelled { toggle })
     }
 
     pub fn open(&mut self, lent: Lent, open: &Open) -> Result<Answer, u8> {

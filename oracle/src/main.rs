@@ -8,6 +8,7 @@ mod compare;
 mod driver;
 mod generate;
 mod lent_buffer;
+mod packets;
 mod player;
 mod print;
 mod record;
@@ -96,9 +97,9 @@ use std::io::{self, BufRead, Write};
 use std::process::ExitCode;
 
 const USAGE: &str = "usage: oracle < SCRIPT
-       oracle gen SEED CALLS well|hostile|edge|mangled
+       oracle gen SEED CALLS well|hostile|edge|mangled [RULE]
        oracle vectors
-       oracle compare REPLAY SEED CALLS
+       oracle compare REPLAY SEED CALLS [RULE]
        oracle bench < LETTERS (with the feature lean)";
 
 fn main() -> ExitCode {
@@ -123,20 +124,29 @@ fn run(arguments: &[&str]) -> Option<io::Result<bool>> {
     let mut out = io::BufWriter::new(io::stdout().lock());
     Some(match *arguments {
         [] => replay(io::stdin().lock(), out).map(|()| true),
-        ["gen", seed, calls, kind] => {
+        ["gen", seed, calls, kind, ref rule @ ..] => {
             let kind = generate::Kind::named(kind)?;
             let (seed, calls) = (seed.parse().ok()?, calls.parse().ok()?);
-            generate::generate(seed, calls, kind, out).map(|_| true)
+            generate::generate(seed, calls, kind, desk_rule(rule)?, out).map(|_| true)
         }
         ["vectors"] => vectors::vectors(out).map(|()| true),
-        ["compare", program, seed, calls] => {
+        ["compare", program, seed, calls, ref rule @ ..] => {
             let (seed, calls) = (seed.parse().ok()?, calls.parse().ok()?);
-            compare::compare(program, seed, calls, &mut out)
+            compare::compare(program, seed, calls, desk_rule(rule)?, &mut out)
         }
         #[cfg(feature = "lean")]
         ["bench"] => bench::bench(io::stdin().lock(), &mut out).map(|()| true),
         _ => return None,
     })
+}
+
+/// Desk rule 1 unless said otherwise.
+fn desk_rule(arguments: &[&str]) -> Option<script::DeskRule> {
+    match arguments {
+        [] | ["1"] => Some(script::DeskRule::One),
+        ["2"] => Some(script::DeskRule::Two),
+        _ => None,
+    }
 }
 
 /// Plays a script line by line.

@@ -67,7 +67,7 @@ impl<W: Write> Player<W> {
             return Ok(());
         };
         self.calls += u64::from(is_call(&line));
-        if line == Line::Fresh {
+        if matches!(line, Line::Fresh | Line::Rule(_)) {
             self.under_way = None;
             self.open = [false; 15];
         }
@@ -118,7 +118,10 @@ impl<W: Write> Player<W> {
             (Line::Begin(begin), Answer::Begun) => {
                 self.under_way = Some(UnderWay::of(begin));
             }
-            (_, Answer::Done { .. } | Answer::Failed(_) | Answer::Cancelled) => {
+            (
+                _,
+                Answer::Done { .. } | Answer::Failed { .. } | Answer::Cancelled { .. },
+            ) => {
                 self.under_way = None;
             }
             (_, Answer::Pipe(n)) => self.open[usize::from(*n) - 1] = true,
@@ -132,6 +135,7 @@ fn is_call(line: &Line) -> bool {
     !matches!(
         line,
         Line::Fresh
+            | Line::Rule(_)
             | Line::Lend { .. }
             | Line::PacketMemory { .. }
             | Line::Buffer(_)

@@ -23,6 +23,9 @@ pub fn unreadable(out: &mut impl Write, number: u64) -> io::Result<()> {
 
 fn call(out: &mut impl Write, report: &Report) -> io::Result<()> {
     answer(out, &report.answer)?;
+    if let Some(toggle) = report.toggle {
+        writeln!(out, "toggle {}", u8::from(toggle))?;
+    }
     if let Some(count) = report.failed {
         writeln!(out, "failed {count}")?;
     }
@@ -53,10 +56,10 @@ fn answer(out: &mut impl Write, answer: &Answer) -> io::Result<()> {
             };
             writeln!(out, "done {count} {toggle}")
         }
-        Answer::Refused(number) | Answer::Failed(number) => {
+        Answer::Refused(number) | Answer::Failed { number, .. } => {
             writeln!(out, "refused {number}")
         }
-        Answer::Cancelled => writeln!(out, "cancelled"),
+        Answer::Cancelled { .. } => writeln!(out, "cancelled"),
         Answer::Closed => writeln!(out, "closed"),
         Answer::Pipe(n) => writeln!(out, "pipe {n}"),
         Answer::Packet(packet) => {

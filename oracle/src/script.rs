@@ -10,6 +10,7 @@ const LOG: u64 = 192;
 #[derive(Clone, Debug, PartialEq, Eq)]
 pub enum Line {
     Fresh,
+    Rule(DeskRule),
     Lend { packet_memory: usize, log: usize },
     PacketMemory { offset: usize, bytes: Vec<u8> },
     Begin(Begin),
@@ -22,6 +23,13 @@ pub enum Line {
     Irq { ints: u32, buff_status: u32 },
     Detect { sie_status: u32 },
     Record,
+}
+
+/// Document 02, R-6.
+#[derive(Clone, Copy, Debug, PartialEq, Eq)]
+pub enum DeskRule {
+    One,
+    Two,
 }
 
 #[derive(Clone, Debug, PartialEq, Eq)]
@@ -168,6 +176,7 @@ impl<'a> Fields<'a> {
     fn line(&mut self) -> Read<Line> {
         Ok(match self.word()? {
             "fresh" => Line::Fresh,
+            "rule" => Line::Rule(self.rule()?),
             "lend" => Line::Lend {
                 packet_memory: self.number(PACKET_MEMORY)? as usize,
                 log: self.number(LOG)? as usize,
@@ -265,6 +274,14 @@ impl<'a> Fields<'a> {
 
     fn size(&mut self) -> Read<u16> {
         Ok(self.number(u16::MAX.into())? as u16)
+    }
+
+    fn rule(&mut self) -> Read<DeskRule> {
+        match self.number(2)? {
+            1 => Ok(DeskRule::One),
+            2 => Ok(DeskRule::Two),
+            _ => Err(Unreadable),
+        }
     }
 
     fn bit(&mut self) -> Read<bool> {

@@ -1,10 +1,11 @@
 //! Plays the lines of a script on a driver.
 
 use crate::driver::{Answer, Driver};
+use crate::packets::Packets;
 use crate::record::{Entry, Record, Registers};
 use crate::rules::Lent;
 use crate::runs::{self, Run};
-use crate::script::Line;
+use crate::script::{DeskRule, Line, Step};
 use crate::standins::memory::{self, Write};
 
 /// Everything that came of one line.
@@ -15,6 +16,8 @@ pub enum Block {
 
 pub struct Report {
     pub answer: Answer,
+    /// The toggle that a bulk transfer hands out which failed or was cancelled.
+    pub toggle: Option<bool>,
     /// How many entries a transfer that failed or was cancelled had started.
     pub failed: Option<u32>,
     pub log: Vec<Write>,
@@ -27,6 +30,7 @@ impl Report {
     fn ok() -> Self {
         Self {
             answer: Answer::Ok,
+            toggle: None,
             failed: None,
             log: Vec::new(),
             armed: Vec::new(),
@@ -37,6 +41,7 @@ impl Report {
 }
 
 pub struct Session {
+    rule: DeskRule,
     driver: Driver,
     lent: Lent,
     /// The bytes lent to the next step alone.
@@ -45,17 +50,25 @@ pub struct Session {
     registers: Registers,
     /// The entries that the logs started since the last begin that was not refused.
     entries: u32,
+    /// The packets of the bulk transfer under way, armed and retired.
+    packets: Option<Packets>,
     record: Record,
 }
 
 impl Session {
     pub fn new() -> Self {
+        Self::of(DeskRule::One)
+    }
+
+    fn of(rule: DeskRule) -> Self {
         Self {
+            rule,
             driver: Driver::fresh(),
             lent: Lent::whole(),
             next_buffer: None,
             registers: Registers::default(),
             entries: 0,
+            packets: None,
             record: Record::new(),
         }
     }
@@ -67,7 +80,11 @@ impl Session {
                 return Block::Record(self.record.bytes().map(<[u8]>::to_vec));
             }
             Line::Fresh => {
-                *self = Self::new();
+                *self = Self::of(self.rule);
+                Report::ok()
+            }
+            Line::Rule(rule) => {
+                *self = Self::of(rule);
                 Report::ok()
             }
             Line::Lend { packet_memory, log } => {
@@ -84,10 +101,20 @@ impl Session {
             }
             Line::Step(step) => {
                 let own = self.next_buffer.take();
-                self.call(|driver| driver.step(lent, &step, own.as_deref()))
+                let report = self.call(|driver| driver.step(lent, &step, own.as_deref()));
+                self.hand_out(report, Some(&step))
             }
-            Line::Begin(begin) => self.plain_call(|driver| driver.begin(lent, &begin)),
-            Line::Cancel => self.plain_call(Driver::cancel),
+            Line::Begin(begin) => {
+                let report = self.plain_call(|driver| driver.begin(lent, &begin));
+                if matches!(report.answer, Answer::Begun) {
+                    self.packets = Packets::of(&begin, &report.log);
+                }
+                report
+            }
+            Line::Cancel => {
+                let report = self.plain_call(Driver::cancel);
+                self.hand_out(report, None)
+            }
             Line::Open(open) => self.plain_call(|driver| driver.open(lent, &open)),
             Line::Close(pipe) => self.plain_call(|driver| driver.close(pipe)),
             Line::Poll(poll) => self.plain_call(|driver| driver.poll(lent, &poll)),
@@ -121,12 +148,31 @@ impl Session {
         self.record.append(&armed, failed);
         Report {
             answer,
+            toggle: None,
             failed,
             log,
             armed,
             packet_memory: runs::changed(&before, &after),
             buffer,
         }
+    }
+
+    /// The toggle of a step or cancel: under rule 1 the Rust's, under rule 2 the one
+    /// counted here.
+    fn hand_out(&mut self, mut report: Report, step: Option<&Step>) -> Report {
+        if let (Some(packets), Some(step)) = (&mut self.packets, step) {
+            packets.step(step, &report.answer, &report.log);
+        }
+        report.toggle = match report.answer {
+            Answer::Failed { toggle, .. } | Answer::Cancelled { toggle } => match self
+                .rule
+            {
+                DeskRule::One => toggle,
+                DeskRule::Two => toggle.and(self.packets.as_ref()).map(Packets::toggle),
+            },
+            _ => None,
+        };
+        report
     }
 
     /// Counts the entries of a call; the count is answered where the Rust's future ended
@@ -136,7 +182,8 @@ impl Session {
             self.entries = 0;
         }
         self.entries += armed;
-        matches!(answer, Answer::Failed(_) | Answer::Cancelled).then_some(self.entries)
+        matches!(answer, Answer::Failed { .. } | Answer::Cancelled { .. })
+            .then_some(self.entries)
     }
 
     /// A register as the logs so far leave it.

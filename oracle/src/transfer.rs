@@ -99,6 +99,13 @@ impl Transfer {
         self.toggle.as_ref().map(|toggle| toggle.get())
     }
 
+    /// The same, once the future is dropped.
+    pub fn toggle_after_drop(self) -> Option<bool> {
+        let Self { future, toggle, .. } = self;
+        drop(future);
+        toggle.map(|toggle| toggle.get())
+    }
+
     /// Runs the Rust until it waits or ends, with a count or with document 01's number.
     pub fn poll(&mut self) -> Poll<Result<usize, u8>> {
         let mut context = Context::from_waker(Waker::noop());

@@ -5,6 +5,7 @@ use transfers::answers::StepAnswer;
 use transfers::control::Stepped;
 use transfers::driver::Bulk;
 use transfers::driver::Control;
+use transfers::driver::DeskRule;
 use transfers::driver::Driver;
 use transfers::driver::InStage;
 use transfers::driver::Kind;
@@ -85,7 +86,7 @@ pub(crate) fn busy(address: u8, size: u8, kind: Kind, stage: Stage) -> Transfer 
 }
 
 fn driver(t: Transfer) -> Driver {
-    let d = Driver::new();
+    let d = Driver::new(DeskRule::One);
     let pipes = d.pipes;
     let last = d.last;
     Driver {
@@ -93,6 +94,7 @@ fn driver(t: Transfer) -> Driver {
         entries: 0,
         pipes,
         last,
+        rule: DeskRule::One,
     }
 }
 

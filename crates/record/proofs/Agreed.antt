@@ -14,15 +14,16 @@ use Rattle.transfers.specs.declared.answers.StepAnswer.{StepAnswer}
 use Rattle.transfers.specs.declared.answers.StepAnswer.the-variants.{Waiting, Done, Refused}
 use Rattle.transfers.specs.declared.answers.Armed.{Armed}
 use Rattle.transfers.specs.declared.sample.Sample.{Sample}
+use Rattle.transfers.specs.declared.driver.DeskRule.{DeskRule}
 use Rattle.transfers.specs.declared.driver.Driver.{Driver}
 use Rattle.transfers.specs.declared.driver.Transfer.{Transfer}
 use Rattle.transfers.specs.declared.driver.Transfer.the-variants.{Idle, Busy}
 use Rattle.transfers.specs.Reply.{result, beginReply}
 use Rattle.transfers.specs.Rows.{unless}
 use Rattle.transfers.specs.Memory.{lentFits}
-use Rattle.transfers.specs.Outcome.{toggleIn}
+use Rattle.transfers.specs.Outcome.{toggleIn, toggleOut}
 use Rattle.transfers.specs.Step.{acts}
-use Rattle.transfers.specs.Calls.{stepIf, mayStep, stepLent, stepOf, cancelIf, eitherServes, cancelOf, Beginning, fieldsRefusal, beginRefusal, beginOr, isIdle, beginsControl, beginControlOf, bulkRequest, beginsBulkIn, beginsBulkOut, beginBulkInOf, beginBulkOutOf}
+use Rattle.transfers.specs.Calls.{stepIf, mayStep, stepLent, stepOf, cancelIf, stageParity, eitherServes, cancelOf, Beginning, fieldsRefusal, beginRefusal, beginOr, isIdle, beginsControl, beginControlOf, bulkRequest, beginsBulkIn, beginsBulkOut, beginBulkInOf, beginBulkOutOf}
 use Rattle.transfers.specs.Driver.{fresh}
 use Rattle.record.specs.Wire.{File}
 use Rattle.record.specs.Calls.{Begin, controlBegin, bulkBegin, Call, begin, step, cancel, openPipe, closePipe, pollPipe, interrupt, detect, call, beginning}
@@ -95,7 +96,7 @@ unfolding cancelOf
 cancel-agrees l Idle h = h
 cancel-agrees l (Busy r) h = by (eitherServes r)
   where
-    by : (b : Bool) → let o = cancelIf b (Busy r) (toggleIn (r .request .kind)) in Agrees (nextLive (note cancel (o .answer)) l) (o .next)
+    by : (b : Bool) → let o = cancelIf b (Busy r) (toggleIn (r .request .kind)) (toggleOut (r .request .kind) (stageParity (r .stage))) in Agrees (nextLive (note cancel (o .answer)) l) (o .next)
     by false = h
     by true = tt
 
@@ -202,5 +203,5 @@ table-from (c ∷ cs) t d h =
     let o = call d c in
     (call-row c d (t .live) h, subst (λ (u : Told). TableFrom u (o .next) cs) (hears-is t c o) (table-from cs (after t c o) (o .next) (call-agrees c d (t .live) h)))
 
-pub table : (f : File) (cs : List Call) → TableFrom (untold f) fresh cs
-table f cs = table-from cs (untold f) fresh tt
+pub table : (rule : DeskRule) (f : File) (cs : List Call) → TableFrom (untold f) (fresh rule) cs
+table rule f cs = table-from cs (untold f) (fresh rule) tt

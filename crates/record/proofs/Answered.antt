@@ -23,6 +23,7 @@ use Rattle.transfers.specs.declared.sample.Sample.{Sample}
 use Rattle.transfers.specs.declared.sample.Poll.{Poll}
 use Rattle.transfers.specs.declared.sample.Poll.the-variants.{Pending, Ready}
 use Rattle.transfers.specs.declared.sample.Found.the-variants.{Complete, Failed, Neither}
+use Rattle.transfers.specs.declared.driver.DeskRule.{DeskRule}
 use Rattle.transfers.specs.declared.driver.Driver.{Driver}
 use Rattle.transfers.specs.declared.driver.Transfer.{Transfer}
 use Rattle.transfers.specs.declared.driver.Transfer.the-variants.{Idle, Busy}
@@ -43,9 +44,9 @@ use Rattle.transfers.specs.Arming.{inArmTwo, outArmTwo}
 use Rattle.transfers.specs.Answers.{nothingArmed, outsArmed}
 use Rattle.transfers.specs.State.{endpointOf, targetOf, stageLength, controlOf, addressGood, endpointGood, sizeGood}
 use Rattle.transfers.specs.Retiring.{InRetiring, inRetireOne}
-use Rattle.transfers.specs.Outcome.{Outcome, after, toggleIn, failed, startIn, startOut}
+use Rattle.transfers.specs.Outcome.{Outcome, after, toggleIn, toggleOut, failed, startIn, startOut}
 use Rattle.transfers.specs.Step.{setupDone, setupStep, inPackets, inReceived, inDone, inSecondDone, inFirstDone, inComplete, inRearm, inSecondMoved, inFirstMoved, inMove, inStep, outPackets, outRetireTwo, outControlDone, outDone, outComplete, outMove, outStep, lent, keeping, polls, acts}
-use Rattle.transfers.specs.Calls.{stepIf, mayStep, stepLent, stepOf, cancelIf, eitherServes, cancelOf, Beginning, beginOr, isIdle, beginsControl, beginControlOf, bulkRequest, beginsBulkIn, beginsBulkOut, beginBulkInOf, beginBulkOutOf}
+use Rattle.transfers.specs.Calls.{stepIf, mayStep, stepLent, stepOf, cancelIf, stageParity, eitherServes, cancelOf, Beginning, beginOr, isIdle, beginsControl, beginControlOf, bulkRequest, beginsBulkIn, beginsBulkOut, beginBulkInOf, beginBulkOutOf}
 use Rattle.transfers.specs.Pipes.{opening, polling}
 use Rattle.transfers.specs.Irq.{waking}
 use Rattle.transfers.specs.Detect.{detecting}
@@ -147,7 +148,7 @@ starts-in pre x t status n m f sp gd = record { known = (gd, tt); is = wire-none
 -- ---- a step
 
 module _ (f : File) (x : Request) (gd : Good x) (now m : List ℕ) where
-  tells-failed : (ws : List Write) (e : UsbError) (bf : List ℕ) → Silent (ws ++ []) → Told f (after ws (failed x e m bf))
+  tells-failed : (ws : List Write) (e : UsbError) (bf : List ℕ) → Silent (ws ++ []) → Told f (after ws (failed x false e m bf))
   tells-failed ws e bf s = still f Idle (ws ++ []) m s tt
 
   tells-setup : Told f (after polledOnly (setupStep Complete x now m))
@@ -233,10 +234,10 @@ module _ (f : File) (x : Request) (gd : Good x) (now m : List ℕ) where
   tells-polls setupStage (Ready (Failed e)) wd i = tells-failed polledOnly e now silent-polled
   tells-polls setupStage (Ready Neither) wd i = still f (Busy (record { request = x; stage = setupStage })) polledOnly m silent-polled (gd, tt)
   tells-polls (inStage st) (Ready Complete) wd i = keeps f (st .status) now (inComplete x st wd (lent (st .status) now) m) (tells-in-complete st wd (lent (st .status) now))
-  tells-polls (inStage st) (Ready (Failed e)) wd i = keeps f (st .status) now (failed x e m (lent (st .status) now)) (tells-failed quietened e (lent (st .status) now) silent-quietened)
+  tells-polls (inStage st) (Ready (Failed e)) wd i = keeps f (st .status) now (failed x (st .retire) e m (lent (st .status) now)) (tells-failed quietened e (lent (st .status) now) silent-quietened)
   tells-polls (inStage st) (Ready Neither) wd i = keeps f (st .status) now (inMove x st wd (lent (st .status) now) m) (tells-in-move st wd (lent (st .status) now))
   tells-polls (outStage st) (Ready Complete) wd i = keeps f (st .status) now (outComplete x st wd m (lent (st .status) now)) (tells-out-complete st wd (lent (st .status) now))
-  tells-polls (outStage st) (Ready (Failed e)) wd i = keeps f (st .status) now (failed x e m (lent (st .status) now)) (tells-failed quietened e (lent (st .status) now) silent-quietened)
+  tells-polls (outStage st) (Ready (Failed e)) wd i = keeps f (st .status) now (failed x (st .retire) e m (lent (st .status) now)) (tells-failed quietened e (lent (st .status) now) silent-quietened)
   tells-polls (outStage st) (Ready Neither) wd i = keeps f (st .status) now (outMove x st wd (lent (st .status) now) m) (tells-out-move st wd (lent (st .status) now) i)
 
 tells-step : (f : File) (b : Bool) (t : Transfer) (y : Sample) (now m log : List ℕ) → Known f t → Told f (stepOf b t y now m log)
@@ -293,7 +294,7 @@ unfolding cancelOf
 tells-cancel f Idle i = still f Idle [] [] silent-nil tt
 tells-cancel f (Busy r) i = by (eitherServes r)
   where
-    by : (b : Bool) → Tells f (cancelIf b (Busy r) (toggleIn (r .request .kind)) .next) [] [] nothingArmed
+    by : (b : Bool) → Tells f (cancelIf b (Busy r) (toggleIn (r .request .kind)) (toggleOut (r .request .kind) (stageParity (r .stage))) .next) [] [] nothingArmed
     by false = still f (Busy r) [] [] silent-nil i
     by true = still f Idle [] [] silent-nil tt
 
@@ -318,5 +319,5 @@ ranged-from : (cs : List Call) (f : File) (d : Driver) → AllTyped cs → Known
 ranged-from [] f d ty i = tt
 ranged-from (c ∷ cs) f d ty i = let k = tells-call c d f (ty .0) i in (k .ranged, ranged-from cs (performs f (call d c .writes)) (call d c .next) (ty .1) (k .known))
 
-pub all-ranged : (cs : List Call) → AllTyped cs → AllRanged fresh cs
-all-ranged cs ty = ranged-from cs (λ q. 0) fresh ty tt
+pub all-ranged : (rule : DeskRule) (cs : List Call) → AllTyped cs → AllRanged (fresh rule) cs
+all-ranged rule cs ty = ranged-from cs (λ q. 0) (fresh rule) ty tt

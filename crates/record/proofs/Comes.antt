@@ -12,6 +12,7 @@ use Rattle.cutting.specs.declared.transfer_type.TransferType.{TransferType}
 use Rattle.cutting.specs.declared.transfer_type.TransferType.the-variants.{FixedSize, VariableSize}
 use Rattle.cutting.specs.Cut.{outCut}
 use Rattle.cutting.proofs.Lengths.{more}
+use Rattle.transfers.specs.declared.driver.DeskRule.{DeskRule}
 use Rattle.transfers.specs.declared.host_controller.DataPhase.the-variants.{In as phaseIn, Out as phaseOut, None as phaseNone}
 use Rattle.transfers.specs.declared.host_controller.TransferExtras.the-variants.{Normal}
 use Rattle.transfers.specs.declared.wire.SetupPacket.{SetupPacket}
@@ -202,19 +203,19 @@ unfolding log
 log-words = zero-words 192
 
 -- A list of calls in which no transfer fails and that has given entries.
-pub record CallsFor (f : File) (r : List Entry) : Type 0 where
+pub record CallsFor (rule : DeskRule) (f : File) (r : List Entry) : Type 0 where
   pub calls : List Call
   pub typed : AllTyped calls
-  pub premises : UnbrokenFrom noTransfer 0 notArmed f fresh calls
-  pub is : entriesFrom f fresh calls ≡ r
+  pub premises : UnbrokenFrom noTransfer 0 notArmed f (fresh rule) calls
+  pub is : entriesFrom f (fresh rule) calls ≡ r
 
-pub calls-for : (f : File) (r : List Entry) → PlainReading r → CallsFor f r
-calls-for f r h =
+pub calls-for : (rule : DeskRule) (f : File) (r : List Entry) → PlainReading r → CallsFor rule f r
+calls-for rule f r h =
     let k = find memory log lent-enough memory-bytes log-words (h .parts) (h .fit) in
-    let p = k .free .premises 0 notArmed f fresh refl in
+    let p = k .free .premises 0 notArmed f (fresh rule) refl in
     record {
       calls = k .calls;
       typed = k .free .typed;
       premises = p;
-      is = record-of-begun (k .calls) 0 notArmed f fresh refl (k .free .typed) p ∙ ap armedByAll (k .free .begun fresh refl) ∙ k .is ∙ h .is;
+      is = record-of-begun (k .calls) 0 notArmed f (fresh rule) refl (k .free .typed) p ∙ ap armedByAll (k .free .begun (fresh rule) refl) ∙ k .is ∙ h .is;
     }

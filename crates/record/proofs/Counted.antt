@@ -22,13 +22,14 @@ use Rattle.transfers.specs.declared.answers.OptionSetup.the-variants.{Some as s
 use Rattle.transfers.specs.declared.answers.OptionOut.{OptionOut}
 use Rattle.transfers.specs.declared.answers.OptionOut.the-variants.{Some as someOut, None as noOut}
 use Rattle.transfers.specs.declared.sample.Sample.{Sample}
+use Rattle.transfers.specs.declared.driver.DeskRule.{DeskRule}
 use Rattle.transfers.specs.declared.driver.Driver.{Driver}
 use Rattle.transfers.specs.declared.driver.Transfer.{Transfer}
 use Rattle.transfers.specs.declared.driver.Transfer.the-variants.{Idle, Busy}
 use Rattle.transfers.specs.Memory.{lentFits}
-use Rattle.transfers.specs.Outcome.{Outcome, toggleIn}
+use Rattle.transfers.specs.Outcome.{Outcome, toggleIn, toggleOut}
 use Rattle.transfers.specs.Step.{acts}
-use Rattle.transfers.specs.Calls.{stepIf, mayStep, stepLent, stepOf, cancelIf, eitherServes, cancelOf, Beginning, beginOr, beginsControl, beginControlOf, bulkRequest, beginsBulkIn, beginsBulkOut, beginBulkInOf, beginBulkOutOf}
+use Rattle.transfers.specs.Calls.{stepIf, mayStep, stepLent, stepOf, cancelIf, stageParity, eitherServes, cancelOf, Beginning, beginOr, beginsControl, beginControlOf, bulkRequest, beginsBulkIn, beginsBulkOut, beginBulkInOf, beginBulkOutOf}
 use Rattle.transfers.specs.Entries.{setupCount, outCount, armedCount, word, entriesBegun, entriesStepped, entriesCancelled, failedStep, failedCancel}
 use Rattle.transfers.specs.Driver.{fresh}
 use Rattle.record.specs.Grammar.{Entry}
@@ -143,7 +144,7 @@ unfolding cancelOf
 cancel-right Idle e n c = record { count = tt; says = refl; small = tt }
 cancel-right (Busy r) e n c = by (eitherServes r)
   where
-    by : (b : Bool) → let o = cancelIf b (Busy r) (toggleIn (r .request .kind)) in
+    by : (b : Bool) → let o = cancelIf b (Busy r) (toggleIn (r .request .kind)) (toggleOut (r .request .kind) (stageParity (r .stage))) in
         Right (o .next) (entriesCancelled (o .answer) e) (since (note cancel (o .answer)) n 0) (counted (failedCancel (o .answer) e)) (countIf (breaks (note cancel (o .answer))) (since (note cancel (o .answer)) n 0))
     by false = record { count = count-none (Busy r) e n c; says = refl; small = tt }
     by true = record { count = tt; says = ap (λ (i : ℕ). failedEntry i ∷ []) (add-zero n ∙ sym (c .0)); small = (let s = bounded-small n r (c .1) in let q = c .0 in omega arith, tt) }
@@ -203,8 +204,8 @@ answered-elements (x ∷ cs) t d ty i c a =
     (answered-elements cs (after t x o) (o .next) (ty .1) (k .known) (r .count) (call-agrees x d (t .live) a))))
 
 -- What begin, step and cancel answer is the record of version 2. No premise.
-pub answered : (f : File) (cs : List Call) → AllTyped cs → wireRecord f cs ≡ answeredFrom fresh cs
-answered f cs ty = answered-elements cs (untold f) fresh ty tt tt tt
+pub answered : (rule : DeskRule) (f : File) (cs : List Call) → AllTyped cs → wireRecord rule f cs ≡ answeredFrom (fresh rule) cs
+answered rule f cs ty = answered-elements cs (untold f) (fresh rule) ty tt tt tt
 
 -- ---- no count is above 65,536
 
@@ -226,8 +227,8 @@ small-from (x ∷ cs) d n c =
     (counted-small (o .failed) (answeredFrom (o .next) cs) (r .small) (small-from cs (o .next) (since (note x (o .answer)) n (armedCount (o .armed))) (r .count)))
 
 -- Neither those that are answered nor those of the record: 32 bits hold them.
-pub answered-small : (cs : List Call) → CountsTo 65536 (answeredFrom fresh cs)
-answered-small cs = small-from cs fresh 0 tt
+pub answered-small : (rule : DeskRule) (cs : List Call) → CountsTo 65536 (answeredFrom (fresh rule) cs)
+answered-small rule cs = small-from cs (fresh rule) 0 tt
 
-pub counts-small : (f : File) (cs : List Call) → AllTyped cs → CountsTo 65536 (wireRecord f cs)
-counts-small f cs ty = subst (CountsTo 65536) (sym (answered f cs ty)) (answered-small cs)
+pub counts-small : (rule : DeskRule) (f : File) (cs : List Call) → AllTyped cs → CountsTo 65536 (wireRecord rule f cs)
+counts-small rule f cs ty = subst (CountsTo 65536) (sym (answered rule f cs ty)) (answered-small rule cs)

@@ -1,6 +1,7 @@
 -- The examples' calls are of the program's types, so term 3 speaks of them. Assumes nothing.
 use mathlib.Core.List.{List, [], _∷_, _++_}
 use native.Mathlib.Omega.{arith}
+use Rattle.transfers.specs.declared.driver.DeskRule.the-variants.{One}
 use Rattle.record.specs.Grammar.{Bytes}
 use Rattle.record.specs.Calls.{Call}
 use Rattle.record.specs.Asked.{Words, TypedSample, AllTyped}
@@ -46,12 +47,12 @@ stalled-typed = (((omega arith, omega arith, omega arith), five-bytes, memory-ty
 cancelled-typed : AllTyped cancelledCalls
 cancelled-typed = (((omega arith, omega arith, omega arith), three-bytes, memory-typed, log-typed), (tt, tt))
 
-pub two-recorded : Recorded noBits twoCalls
-two-recorded = recorded noBits twoCalls (typed-append configureCalls threeCalls configure-typed three-typed) (two-transfers .premises)
+pub two-recorded : Recorded One noBits twoCalls
+two-recorded = recorded One noBits twoCalls (typed-append configureCalls threeCalls configure-typed three-typed) (two-transfers .premises)
 
-pub four-recorded : Recorded noBits fourCalls
+pub four-recorded : Recorded One noBits fourCalls
 four-recorded =
-    recorded noBits fourCalls
+    recorded One noBits fourCalls
     (typed-append stalledCalls (configureCalls ++ (cancelledCalls ++ threeCalls)) stalled-typed
     (typed-append configureCalls (cancelledCalls ++ threeCalls) configure-typed (typed-append cancelledCalls threeCalls cancelled-typed three-typed)))
     (four-transfers .premises)

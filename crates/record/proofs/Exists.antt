@@ -15,6 +15,7 @@ use Rattle.cutting.specs.Counters.{outStart}
 use Rattle.cutting.specs.Left.{OutLeft}
 use Rattle.cutting.proofs.Lengths.{lengths-some}
 use Rattle.cutting.proofs.Cutting.{deal-none, out-cut}
+use Rattle.transfers.specs.declared.driver.DeskRule.the-variants.{One}
 use Rattle.transfers.specs.declared.host_controller.DataPhase.{DataPhase}
 use Rattle.transfers.specs.declared.host_controller.DataPhase.the-variants.{In as phaseIn, Out as phaseOut, None as phaseNone}
 use Rattle.transfers.specs.declared.host_controller.TransferExtras.{TransferExtras}
@@ -233,7 +234,7 @@ module _ (m log : List ℕ) (fits : lentFits m log ≡ true) (mb : Bytes m) (lw 
     }
 
     goes-done : (k : ℕ) (t : Bool) (ws : List Write) (bf : List ℕ) → TakenIf (true && sendsNext (live x buf) n) (seen w doneSample)
-        → Goes e x buf n w f doneSample (after ws (ended (Done k) t m bf)) later
+        → Goes e x buf n w f doneSample (after ws (ended (Done k) t t m bf)) later
     goes-done k t ws bf h = record {
       typed = free .typed;
       counts = refl;
@@ -373,7 +374,7 @@ module _ (m log : List ℕ) (fits : lentFits m log ≡ true) (mb : Bytes m) (lw 
       record {
         calls = c ∷ cs;
         free = record {
-          typed = ((ty, bb, mb, lw), fin fresh (λ k. 0) .typed);
+          typed = ((ty, bb, mb, lw), fin (fresh One) (λ k. 0) .typed);
           premises = λ n w f d r.
               subst (λ (o : Beginning). (breaks (note c (o .answer)) ≡ false) × CallGood (note c (o .answer)) noTransfer n w (events f (o .writes))
               × (CallLent (note c (o .answer)) noTransfer × Unrefused c (o .answer))

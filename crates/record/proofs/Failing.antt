@@ -16,6 +16,7 @@ use Rattle.transfers.specs.declared.answers.StepAnswer.the-variants.{Waiting, D
 use Rattle.transfers.specs.declared.sample.Sample.{Sample}
 use Rattle.transfers.specs.declared.answers.CancelAnswer.{CancelAnswer}
 use Rattle.transfers.specs.declared.answers.CancelAnswer.the-variants.{Cancelled, Refused as refusedCancel}
+use Rattle.transfers.specs.declared.driver.DeskRule.{DeskRule}
 use Rattle.transfers.specs.declared.driver.Driver.{Driver}
 use Rattle.transfers.specs.declared.driver.Transfer.{Transfer}
 use Rattle.transfers.specs.declared.driver.Transfer.the-variants.{Idle, Busy}
@@ -382,14 +383,14 @@ fates-from (c ∷ cs) t d rest ty i h =
     (fates-from cs u (o .next) (q .rest′) (ty .1) (q .inv) p))
 
 -- From a fresh driver, over any registers.
-pub recorded : (f : File) (cs : List Call) → AllTyped cs → Premises f cs → Recorded f cs
-recorded f cs ty h =
-    let k = reads-from cs (untold f) fresh [] [] ty refl refl h in
+pub recorded : (rule : DeskRule) (f : File) (cs : List Call) → AllTyped cs → Premises rule f cs → Recorded rule f cs
+recorded rule f cs ty h =
+    let k = reads-from cs (untold f) (fresh rule) [] [] ty refl refl h in
     let r = k .reading in
     record {
       reading = r;
       only = λ v. one-reading (v .segments) (r .segments) (v .last) (r .last) (v .segments-fit) (r .segments-fit) (v .last-fit) (r .last-fit) (v .is ∙ sym (r .is));
-      begun = fates-from cs (untold f) fresh [] ty refl h;
+      begun = fates-from cs (untold f) (fresh rule) [] ty refl h;
       made = k .made;
       transfers = k .transfers;
       packets = k .packets;

@@ -7,8 +7,8 @@ use Rattle.transfers.specs.declared.driver.Driver.{Driver}
 use Rattle.transfers.specs.declared.driver.Transfer.{Transfer}
 use Rattle.transfers.specs.declared.driver.Transfer.the-variants.{Idle, Busy}
 use Rattle.transfers.specs.Log.{Write}
-use Rattle.transfers.specs.Calls.{cancelIf, eitherServes, cancelOf}
-use Rattle.transfers.specs.Outcome.{toggleIn}
+use Rattle.transfers.specs.Calls.{cancelIf, stageParity, eitherServes, cancelOf}
+use Rattle.transfers.specs.Outcome.{toggleIn, toggleOut}
 use Rattle.transfers.specs.Pipes.{opening, polling}
 use Rattle.transfers.specs.Irq.{waking}
 use Rattle.transfers.specs.Detect.{detecting}
@@ -44,7 +44,7 @@ cancel-kept d l n w f rest i = at (d .transfer) i
     at (Busy u) i = by (eitherServes u)
       where
         by : (b : Bool) → Kept l n w f rest cancel
-            (let o = cancelIf b (Busy u) (toggleIn (u .request .kind)) in record { next = withTransfer d (o .next) (entriesCancelled (o .answer) (d .entries)); answer = o .answer; writes = []; memory = []; armed = call d cancel .armed; failed = failedCancel (o .answer) (d .entries) })
+            (let o = cancelIf b (Busy u) (toggleIn (u .request .kind)) (toggleOut (u .request .kind) (stageParity (u .stage))) in record { next = withTransfer d (o .next) (entriesCancelled (o .answer) (d .entries)); answer = o .answer; writes = []; memory = []; armed = call d cancel .armed; failed = failedCancel (o .answer) (d .entries) })
         by false = record { rest′ = rest; inv = i; split = same-due f [] [] rest refl; room = λ q r. r }
         by true = record { rest′ = []; inv = refl; split = wire-none f [] [] refl; room = λ q r. absurd (true≢false q) }
 

@@ -12,6 +12,7 @@ use borrow.Author.Tests.{leb-true, ne-eqb}
 use Rattle.transfers.specs.declared.answers.Armed.{Armed}
 use Rattle.transfers.specs.declared.answers.OptionEntries.{OptionEntries}
 use Rattle.transfers.specs.declared.answers.OptionEntries.the-variants.{Some as someCount, None as noCount}
+use Rattle.transfers.specs.declared.driver.DeskRule.{DeskRule}
 use Rattle.transfers.specs.declared.driver.Driver.{Driver}
 use Rattle.transfers.specs.Answers.{nothingArmed}
 use Rattle.transfers.specs.Driver.{fresh}
@@ -134,5 +135,5 @@ along l₀ ms (c ∷ cs) k es d h =
     (along l₀ later cs (appendsAfter (ms 0) c o k) (es ++ (a ++ b)) (o .next) (one l₀ (ms 0) k es d c h))
 
 -- The writer's calls over a list of driver calls.
-pub all-fine : (l : List ℕ) (ms : ℕ → List ℕ) (cs : List Call) → Fine l (keptAll l ms cs) (answeredFrom fresh cs)
-all-fine l ms cs = along l (λ i. ms (suc i)) cs (appends nothingArmed noCount (ms 0) (kept l 0)) [] fresh (first (ms 0) l)
+pub all-fine : (rule : DeskRule) (l : List ℕ) (ms : ℕ → List ℕ) (cs : List Call) → Fine l (keptAll rule l ms cs) (answeredFrom (fresh rule) cs)
+all-fine rule l ms cs = along l (λ i. ms (suc i)) cs (appends nothingArmed noCount (ms 0) (kept l 0)) [] (fresh rule) (first (ms 0) l)

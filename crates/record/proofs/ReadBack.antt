@@ -6,6 +6,7 @@ use Prim.Native.Nat.{ℕ}
 use lib.ListN.{length, drop, length-map}
 use lib.Seq.{length-take-le}
 use mathlib.Core.Bool.{true, true≢false}
+use Rattle.transfers.specs.declared.driver.DeskRule.{DeskRule}
 use Rattle.transfers.specs.Driver.{fresh}
 use Rattle.record.specs.Grammar.{item}
 use Rattle.record.specs.Segments.{Element, unfailed}
@@ -26,10 +27,10 @@ use Rattle.record.proofs.Verdicts.{version-of, answers-only}
 use Rattle.record.proofs.Handing.{drop-record, handed-out}
 use Rattle.record.proofs.Holding.{held}
 
-pub written : (f : File) (cs : List Call) → AllTyped cs → (l : List ℕ) (ms : ℕ → List ℕ) (l′ : List ℕ) (n : ℕ) → keptAll l ms cs ≡ kept l′ n → Written f cs l l′ n
-written f cs t l ms l′ n e =
-    let h : Holds l l′ n (answeredFrom fresh cs) = subst (λ (k : Kept). Fine l k (answeredFrom fresh cs)) e (all-fine l ms cs) in
-    let r = ap recordOf (sym (answered f cs t)) in
+pub written : (rule : DeskRule) (f : File) (cs : List Call) → AllTyped cs → (l : List ℕ) (ms : ℕ → List ℕ) (l′ : List ℕ) (n : ℕ) → keptAll rule l ms cs ≡ kept l′ n → Written rule f cs l l′ n
+written rule f cs t l ms l′ n e =
+    let h : Holds l l′ n (answeredFrom (fresh rule) cs) = subst (λ (k : Kept). Fine l k (answeredFrom (fresh rule) cs)) e (all-fine rule l ms cs) in
+    let r = ap recordOf (sym (answered rule f cs t)) in
     record { used = sym (length-take-le n l′ (h .inside)) ∙ ap length (h .bytes ∙ r); bytes = h .bytes ∙ r; rest = h .rest }
 
 -- The writer's version is 2.
@@ -37,12 +38,12 @@ same-record : (ms : List Element) → recordOf ms ≡ recordIn true ms
 unfolding recordOf recordIn
 same-record ms = refl
 
-pub read : (f : File) (cs : List Call) → AllTyped cs → Premises f cs → ReadBack f cs (recordOf (wireRecord f cs))
-read f cs t p =
-    let g = recorded f cs t p in
+pub read : (rule : DeskRule) (f : File) (cs : List Call) → AllTyped cs → Premises rule f cs → ReadBack rule f cs (recordOf (wireRecord rule f cs))
+read rule f cs t p =
+    let g = recorded rule f cs t p in
     let r = g .reading in
-    let ms = wireRecord f cs in
-    let es = listed (endedOf (fates f cs)) in
+    let ms = wireRecord rule f cs in
+    let es = listed (endedOf (fates rule f cs)) in
     let n : length (unfailed (r .segments) (r .last)) ≡ length es = sym (length-map (unfailed (r .segments) (r .last)) item) ∙ ap length (g .transfers) ∙ length-map es itemOf in
     let b = ap (λ (l : List ℕ). drop 5 l) (same-record ms) ∙ drop-record true ms ∙ ap encodeElements (sym (r .is)) in
     let k : Reads true ms = record { reading = r; plain = λ e. absurd (true≢false e) } in

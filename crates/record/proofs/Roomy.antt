@@ -12,6 +12,7 @@ use borrow.Author.Tests.{le-leb, eq-eqb}
 use Rattle.transfers.specs.declared.answers.Armed.{Armed}
 use Rattle.transfers.specs.declared.answers.OptionEntries.{OptionEntries}
 use Rattle.transfers.specs.declared.answers.OptionEntries.the-variants.{None as noCount}
+use Rattle.transfers.specs.declared.driver.DeskRule.{DeskRule}
 use Rattle.transfers.specs.declared.driver.Driver.{Driver}
 use Rattle.transfers.specs.declared.driver.Transfer.{Transfer}
 use Rattle.transfers.specs.declared.wire.Direction.the-variants.{In, Out}
@@ -98,11 +99,11 @@ head-room : (m l : List ℕ) (r : ℕ) → length m ≡ 4096 → 5 + r ≤ lengt
 unfolding toldBytes appended encodeAll
 head-room m l r hm h = subst (λ (k : Kept). Room k r) (sym (fits nothingArmed noCount m l 0 hm none-ranged (omega (arith, h)))) (omega arith, omega (arith, h, length-sets l 0 headBytes))
 
-pub room : (cs : List Call) → AllTyped cs → AllLent cs → (l : List ℕ) (ms : ℕ → List ℕ) → ((i : ℕ) → length (ms i) ≡ 4096) → length (recordOf (answeredFrom fresh cs)) ≤ length l
-    → keptAll l ms cs ≡ refused → ⊥
+pub room : (rule : DeskRule) (cs : List Call) → AllTyped cs → AllLent cs → (l : List ℕ) (ms : ℕ → List ℕ) → ((i : ℕ) → length (ms i) ≡ 4096) → length (recordOf (answeredFrom (fresh rule) cs)) ≤ length l
+    → keptAll rule l ms cs ≡ refused → ⊥
 unfolding recordOf
-room cs ty lent l ms hm h q =
-    let e = length-append headBytes (encodeElements (answeredFrom fresh cs)) in
+room rule cs ty lent l ms hm h q =
+    let e = length-append headBytes (encodeElements (answeredFrom (fresh rule) cs)) in
     subst (λ (k : Kept). Room k 0) q
-    (along (λ i. ms (suc i)) (λ i. hm (suc i)) cs fresh (appends nothingArmed noCount (ms 0) (kept l 0)) lent (all-ranged cs ty)
-    (head-room (ms 0) l (length (encodeElements (answeredFrom fresh cs))) (hm 0) (omega (arith, e, h))))
+    (along (λ i. ms (suc i)) (λ i. hm (suc i)) cs (fresh rule) (appends nothingArmed noCount (ms 0) (kept l 0)) lent (all-ranged rule cs ty)
+    (head-room (ms 0) l (length (encodeElements (answeredFrom (fresh rule) cs))) (hm 0) (omega (arith, e, h))))

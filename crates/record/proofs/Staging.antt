@@ -22,6 +22,7 @@ use Rattle.transfers.specs.declared.sample.Sample.{Sample}
 use Rattle.transfers.specs.declared.sample.Poll.{Poll}
 use Rattle.transfers.specs.declared.sample.Poll.the-variants.{Pending, Ready}
 use Rattle.transfers.specs.declared.sample.Found.the-variants.{Complete, Failed, Neither}
+use Rattle.transfers.specs.declared.driver.DeskRule.{DeskRule}
 use Rattle.transfers.specs.declared.driver.Driver.{Driver}
 use Rattle.transfers.specs.declared.driver.Transfer.{Transfer}
 use Rattle.transfers.specs.declared.driver.Transfer.the-variants.{Idle, Busy}
@@ -36,9 +37,9 @@ use Rattle.transfers.specs.Sample.{classify}
 use Rattle.transfers.specs.Answers.{outsArmed as outsSaid}
 use Rattle.transfers.specs.State.{endpointOf, firstPid, addressGood, endpointGood, sizeGood}
 use Rattle.transfers.specs.Retiring.{InRetiring, inRetireOne}
-use Rattle.transfers.specs.Outcome.{Outcome, toggleIn, startIn, startOut, entersOut}
+use Rattle.transfers.specs.Outcome.{Outcome, toggleIn, toggleOut, startIn, startOut, entersOut}
 use Rattle.transfers.specs.Step.{setupDone, setupStep, inReceived, inDone, inSecondDone, inFirstDone, inComplete, inRearm, inSecondMoved, inFirstMoved, inMove, inStep, outRetireTwo, outDone, outComplete, outMove, outStep, lent, keeping, polls, acts}
-use Rattle.transfers.specs.Calls.{stepIf, mayStep, stepLent, stepOf, cancelIf, eitherServes, cancelOf, Beginning, beginOr, isIdle, beginsControl, beginControlOf, bulkRequest, beginsBulkIn, beginsBulkOut, beginBulkInOf, beginBulkOutOf}
+use Rattle.transfers.specs.Calls.{stepIf, mayStep, stepLent, stepOf, cancelIf, stageParity, eitherServes, cancelOf, Beginning, beginOr, isIdle, beginsControl, beginControlOf, bulkRequest, beginsBulkIn, beginsBulkOut, beginBulkInOf, beginBulkOutOf}
 use Rattle.transfers.specs.Driver.{fresh}
 use Rattle.record.specs.Grammar.{Entry, setup, out}
 use Rattle.record.specs.Wire.{File, performs, Event, setupAt, outAt, events, entryOf, wire}
@@ -402,7 +403,7 @@ unfolding cancelOf
 cancel-held l n s Idle h = same-held l n s Idle h
 cancel-held l n s (Busy r) h = by (eitherServes r)
   where
-    by : (b : Bool) → let o = cancelIf b (Busy r) (toggleIn (r .request .kind)) in let k = note cancel (o .answer) in Held (nextLive k l) (nextCount k n) (cond (turns k) false (s || false)) (o .next)
+    by : (b : Bool) → let o = cancelIf b (Busy r) (toggleIn (r .request .kind)) (toggleOut (r .request .kind) (stageParity (r .stage))) in let k = note cancel (o .answer) in Held (nextLive k l) (nextCount k n) (cond (turns k) false (s || false)) (o .next)
     by false = same-held l n s (Busy r) h
     by true = refl
 
@@ -434,5 +435,5 @@ stages-from (c ∷ cs) b t d ty i h =
           (subst (λ (v : Bool). Held (u .live) (u .stages) (cond (turns k) v (b || v)) (o .next .transfer)) (sym (starts-said c d (t .file) (ty .0) i)) (call-held c d (t .live) (t .stages) b (ty .0) h))),
     )
 
-pub stages : (f : File) (cs : List Call) → AllTyped cs → StagesFrom false (untold f) fresh cs
-stages f cs ty = stages-from cs false (untold f) fresh ty tt refl
+pub stages : (rule : DeskRule) (f : File) (cs : List Call) → AllTyped cs → StagesFrom false (untold f) (fresh rule) cs
+stages rule f cs ty = stages-from cs false (untold f) (fresh rule) ty tt refl

@@ -186,12 +186,12 @@ module _ (d : Driver) (b : Bool) (y : Sample) (now m log : List ℕ) (n : ℕ) (
 
   -- A refusal that ends the transfer.
   ok-failed : (x : Begin) (buf : List ℕ) (rest : List Entry) (ws : List Write) (e : UsbError) (bf : List ℕ) → ends (Usb e) ≡ true → Silent (ws ++ [])
-      → Ok x buf rest (after ws (fails (requestOf x buf) e m bf))
+      → Ok x buf rest (after ws (fails (requestOf x buf) false e m bf))
   ok-failed x buf rest ws e bf k s h = record { rest′ = []; inv = rw k refl; split = rw k (wire-none f (ws ++ []) m (s .are f)); room = λ q r. absurd (true≢false (rw k at q)) }
 
   -- The end with a count: nothing is due.
   ok-done : (x : Begin) (buf : List ℕ) (rest : List Entry) (ws : List Write) (k : ℕ) (t : Bool) (bf : List ℕ) → Silent (ws ++ []) → rest ≡ [] → Room x buf
-      → Step x buf rest (after ws (ended (Done k) t m bf))
+      → Step x buf rest (after ws (ended (Done k) t t m bf))
   ok-done x buf rest ws k t bf s e r = record {
     rest′ = [];
     inv = refl;
@@ -395,13 +395,13 @@ module _ (d : Driver) (b : Bool) (y : Sample) (now m log : List ℕ) (n : ℕ) (
     step-polls (inStage st) (Ready Complete) e full i h =
         keeps (st .status) x buf rest (inComplete (requestOf x buf) st (y .buffers) (lent (st .status) now) m) (in-complete x buf ck rest st (y .buffers) (lent (st .status) now) (finds-is y ∙ ap isComplete e) full i) h
     step-polls (inStage st) (Ready (Failed u)) e full i h =
-        keeps (st .status) x buf rest (fails (requestOf x buf) u m (lent (st .status) now)) (ok-failed x buf rest quietened u (lent (st .status) now) (found-ends y u e) silent-quietened) h
+        keeps (st .status) x buf rest (fails (requestOf x buf) (st .retire) u m (lent (st .status) now)) (ok-failed x buf rest quietened u (lent (st .status) now) (found-ends y u e) silent-quietened) h
     step-polls (inStage st) (Ready Neither) e full i h =
         keeps (st .status) x buf rest (inMove (requestOf x buf) st (y .buffers) (lent (st .status) now) m) (in-move x buf ck rest st (y .buffers) (lent (st .status) now) (finds-is y ∙ ap isComplete e) i) h
     step-polls (outStage st) (Ready Complete) e full i h =
         keeps (st .status) x buf rest (outComplete (requestOf x buf) st (y .buffers) m (lent (st .status) now)) (out-complete st (y .buffers) (lent (st .status) now) (finds-is y ∙ ap isComplete e) i) h
     step-polls (outStage st) (Ready (Failed u)) e full i h =
-        keeps (st .status) x buf rest (fails (requestOf x buf) u m (lent (st .status) now)) (ok-failed x buf rest quietened u (lent (st .status) now) (found-ends y u e) silent-quietened) h
+        keeps (st .status) x buf rest (fails (requestOf x buf) (st .retire) u m (lent (st .status) now)) (ok-failed x buf rest quietened u (lent (st .status) now) (found-ends y u e) silent-quietened) h
     step-polls (outStage st) (Ready Neither) e full i h =
         keeps (st .status) x buf rest (outMove (requestOf x buf) st (y .buffers) (lent (st .status) now) m) (out-move st (finds-is y ∙ ap isComplete e) full i) h
 

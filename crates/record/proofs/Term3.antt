@@ -4,6 +4,7 @@ use mathlib.Core.Bool.{false, true≢false}
 use mathlib.Core.List.{List, [], _∷_, _++_, map, map-append}
 use Prim.Native.Nat.{ℕ}
 use native.Mathlib.Omega.{arith}
+use Rattle.transfers.specs.declared.driver.DeskRule.{DeskRule}
 use Rattle.transfers.specs.declared.driver.Driver.{Driver}
 use Rattle.transfers.specs.Driver.{fresh}
 use Rattle.record.specs.Grammar.{Entry, partEntries, partsEntries, PlainReading, item}
@@ -41,13 +42,13 @@ all-of-ended [] e = refl
 all-of-ended (done g ∷ fs) e = ap (λ (v : List Begun). g ∷ v) (all-of-ended fs e)
 all-of-ended (broken g ∷ fs) e = absurd (let z : _≡_ {A = ℕ} 0 1 = cc in omega arith)
 
-unbroken : (f : File) (cs : List Call) → AllTyped cs → Premises f cs → brokenOf (fates f cs) ≡ [] → Unbroken f cs
-unbroken f cs ty h e =
-    let k = recorded f cs ty h in
+unbroken : (rule : DeskRule) (f : File) (cs : List Call) → AllTyped cs → Premises rule f cs → brokenOf (fates rule f cs) ≡ [] → Unbroken rule f cs
+unbroken rule f cs ty h e =
+    let k = recorded rule f cs ty h in
     let r = k .reading in
     let s : r .segments ≡ [] = no-segments (r .segments) (subst (FirstsOf (r .segments)) e (k .firsts)) in
     let p : r .last ≡ unfailed (r .segments) (r .last) = ap (λ (v : List Segment). unfailed v (r .last)) (sym s) in
-    let b : endedOf (fates f cs) ≡ begunFrom fresh cs = all-of-ended (fates f cs) e ∙ k .begun in
+    let b : endedOf (fates rule f cs) ≡ begunFrom (fresh rule) cs = all-of-ended (fates rule f cs) e ∙ k .begun in
     record {
       record-is = partsEntries (r .last);
       is = sym (r .is) ∙ ap (λ (v : List Segment). elements v (r .last)) s;
@@ -116,17 +117,17 @@ all-ended (c ∷ cs) t d h =
     subst (λ (v : Told). brokenOf (fate (note c (o .answer)) (underWay (t .live)) ++ fatesFrom v (o .next) cs) ≡ []) (hears-is t c o)
     (none-broken (note c (o .answer)) (underWay (t .live)) (fatesFrom u (o .next) cs) (h .0) ∙ all-ended cs u (o .next) (h .3))
 
-comes : (f : File) (r : List Entry) → PlainReading r → ComesFrom f r
-comes f r h =
-    let k = calls-for f r h in
+comes : (rule : DeskRule) (f : File) (r : List Entry) → PlainReading r → ComesFrom rule f r
+comes rule f r h =
+    let k = calls-for rule f r h in
     record {
       calls = k .calls;
       typed = k .typed;
-      premises = premises (k .calls) (untold f) fresh (k .premises);
-      lent = lent (k .calls) (untold f) fresh (k .premises);
-      unrefused = unrefused (k .calls) (untold f) fresh (k .premises);
-      unbroken = all-ended (k .calls) (untold f) fresh (k .premises);
-      is = no-failure (k .calls) (untold f) fresh (k .premises) ∙ ap (map entry) (k .is);
+      premises = premises (k .calls) (untold f) (fresh rule) (k .premises);
+      lent = lent (k .calls) (untold f) (fresh rule) (k .premises);
+      unrefused = unrefused (k .calls) (untold f) (fresh rule) (k .premises);
+      unbroken = all-ended (k .calls) (untold f) (fresh rule) (k .premises);
+      is = no-failure (k .calls) (untold f) (fresh rule) (k .premises) ∙ ap (map entry) (k .is);
     }
 
 pub term3 : Term3

@@ -6,6 +6,7 @@ use Prim.Native.Nat.{ℕ}
 use lib.ListN.{replicate}
 use Rattle.cutting.specs.declared.transfer_type.TransferType.the-variants.{FixedSize}
 use Rattle.cutting.specs.Counters.{inNext, outNext}
+use Rattle.transfers.specs.declared.driver.DeskRule.the-variants.{One}
 use Rattle.transfers.specs.declared.host_controller.TransferExtras.the-variants.{Normal}
 use Rattle.transfers.specs.declared.host_controller.DataPhase.the-variants.{None as phaseNone}
 use Rattle.transfers.specs.declared.wire.Direction.the-variants.{Out}
@@ -105,7 +106,7 @@ twoItems =
 -- of its stage; slot 0 gets 3 bytes, DATA0, LAST and FULL, then AVAILABLE; the interrupts; SEND_DATA, a delay, START_TRANS.
 -- Then the record, the transfers begun and their items, the premises, the bytes in version 2, the reading, and the reader on both versions.
 pub record TwoTransfers : Type 0 where
-  pub control-log : call fresh (begin configure [] lentMemory lentLog) .writes
+  pub control-log : call (fresh One) (begin configure [] lentMemory lentLog) .writes
       ≡ wr 0x5010_0100 0xFFFF_FFFF 0x180
       ∷ wr 0x5010_0080 0xFFFF_FFFF 0
       ∷ wr 0x5010_0000 0xFFFF_FFFF 0x0001_0900
@@ -116,7 +117,7 @@ pub record TwoTransfers : Type 0 where
       ∷ wr 0 0 12
       ∷ wr 0x5011_004C 1 1
       ∷ []
-  pub bulk-log : call fresh (begin three threeBytes lentMemory lentLog) .writes
+  pub bulk-log : call (fresh One) (begin three threeBytes lentMemory lentLog) .writes
       ≡ wr 0x5010_0100 0xFFFF_FFFF 0x8800_0180
       ∷ wr 0x5010_0080 0xFFFF_FFFF 0
       ∷ wr 0x5011_0050 0xFFFF_FFFF 0xFFFF_FFFF
@@ -132,11 +133,11 @@ pub record TwoTransfers : Type 0 where
       ∷ wr 0 0 12
       ∷ wr 0x5011_004C 1 1
       ∷ []
-  pub record-is : recordFrom (untold noBits) fresh twoCalls ≡ twoElements
-  pub begun : begunFrom fresh twoCalls ≡ record { fields = configure; buffer = [] } ∷ record { fields = three; buffer = threeBytes } ∷ []
-  pub fates : fatesFrom (untold noBits) fresh twoCalls ≡ map done (begunFrom fresh twoCalls)
-  pub transfers : map itemOf (listed (begunFrom fresh twoCalls)) ≡ controlItem 5 (four 0 9 1 0) (four 0 0 0 0) [] ∷ bulkItem 5 2 false threeBytes ∷ []
-  pub premises : PremisesFrom (untold noBits) fresh twoCalls
+  pub record-is : recordFrom (untold noBits) (fresh One) twoCalls ≡ twoElements
+  pub begun : begunFrom (fresh One) twoCalls ≡ record { fields = configure; buffer = [] } ∷ record { fields = three; buffer = threeBytes } ∷ []
+  pub fates : fatesFrom (untold noBits) (fresh One) twoCalls ≡ map done (begunFrom (fresh One) twoCalls)
+  pub transfers : map itemOf (listed (begunFrom (fresh One) twoCalls)) ≡ controlItem 5 (four 0 9 1 0) (four 0 0 0 0) [] ∷ bulkItem 5 2 false threeBytes ∷ []
+  pub premises : PremisesFrom (untold noBits) (fresh One) twoCalls
   pub bytes : recordOf twoElements ≡ twoBytes 2
   pub reading : elements [] (controlPart 5 (four 0 9 1 0) (four 0 0 0 0) noGroup ∷ bulkPart 5 2 false [] threeBytes ∷ []) ≡ twoElements
   pub count : checkReply (checkOf (twoBytes 2)) ≡ result 2
@@ -213,14 +214,14 @@ fourBytes =
 -- The record, what became of the four, the premises (a stall and a cancel break none), the bytes, and the reader: two transfers ended with a count, and the cursor
 -- passes over the first and the third.
 pub record FourTransfers : Type 0 where
-  pub record-is : recordFrom (untold noBits) fresh fourCalls ≡ fourElements
-  pub fates : fatesFrom (untold noBits) fresh fourCalls
+  pub record-is : recordFrom (untold noBits) (fresh One) fourCalls ≡ fourElements
+  pub fates : fatesFrom (untold noBits) (fresh One) fourCalls
       ≡ broken (record { fields = five; buffer = fiveBytes })
       ∷ done (record { fields = configure; buffer = [] })
       ∷ broken (record { fields = three; buffer = threeBytes })
       ∷ done (record { fields = three; buffer = threeBytes })
       ∷ []
-  pub premises : PremisesFrom (untold noBits) fresh fourCalls
+  pub premises : PremisesFrom (untold noBits) (fresh One) fourCalls
   pub bytes : recordOf fourElements ≡ fourBytes
   pub count : checkReply (checkOf fourBytes) ≡ result 2
   pub items : itemsFrom 5 fourBytes firstAt

@@ -6,6 +6,7 @@ use lib.ListN.{length}
 use Rattle.transfers.specs.declared.answers.Armed.{Armed}
 use Rattle.transfers.specs.declared.answers.OptionEntries.{OptionEntries}
 use Rattle.transfers.specs.declared.answers.OptionEntries.the-variants.{None as noCount}
+use Rattle.transfers.specs.declared.driver.DeskRule.{DeskRule}
 use Rattle.transfers.specs.declared.driver.Driver.{Driver}
 use Rattle.transfers.specs.Answers.{nothingArmed}
 use Rattle.transfers.specs.Driver.{fresh}
@@ -45,8 +46,8 @@ keptFrom ms k d [] = k
 keptFrom ms k d (c ∷ cs) = let o = call d c in keptFrom (λ i. ms (suc i)) (appendsAfter (ms 0) c o k) (o .next) cs
 
 -- "Called first for nothing armed": a record l is lent, of which nothing is used, and the packet memory `ms 0`.
-abbrev pub keptAll : List ℕ → (ℕ → List ℕ) → List Call → Kept
-keptAll l ms cs = keptFrom (λ i. ms (suc i)) (appends nothingArmed noCount (ms 0) (kept l 0)) fresh cs
+abbrev pub keptAll : DeskRule → List ℕ → (ℕ → List ℕ) → List Call → Kept
+keptAll rule l ms cs = keptFrom (λ i. ms (suc i)) (appends nothingArmed noCount (ms 0) (kept l 0)) (fresh rule) cs
 
 -- The packet memory lent to a begin or step is 4,096 bytes (else the writer too refuses with 15).
 abbrev pub Lent : Call → Type 0

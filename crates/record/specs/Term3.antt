@@ -4,6 +4,7 @@ use mathlib.Core.Bool.{false}
 use mathlib.Core.List.{List, [], map}
 use Prim.Native.Nat.{ℕ, _≤_}
 use lib.ListN.{length, take, drop}
+use Rattle.transfers.specs.declared.driver.DeskRule.{DeskRule}
 use Rattle.transfers.specs.Driver.{fresh}
 use Rattle.transfers.specs.Reply.{Reply, result}
 use Rattle.record.specs.Grammar.{Bytes, Entry, partEntries, PlainReading, item}
@@ -23,19 +24,19 @@ use Rattle.record.specs.Reader.{versionAt}
 use Rattle.record.specs.Verdict.{Whole, Verdict}
 use Rattle.record.specs.Items.{Accepted, firstAt, itemsFrom, answersFor, moves, Held}
 
--- ---- from a fresh driver; f is the registers before the first call, any
+-- ---- from a fresh driver, made with either desk rule; f is the registers before the first call, any
 
 -- The wire record.
-abbrev pub wireRecord : File → List Call → List Element
-wireRecord f cs = recordFrom (untold f) fresh cs
+abbrev pub wireRecord : DeskRule → File → List Call → List Element
+wireRecord rule f cs = recordFrom (untold f) (fresh rule) cs
 
 -- What became of the transfers begun.
-abbrev pub fates : File → List Call → List Fate
-fates f cs = fatesFrom (untold f) fresh cs
+abbrev pub fates : DeskRule → File → List Call → List Fate
+fates rule f cs = fatesFrom (untold f) (fresh rule) cs
 
 -- The premises.
-abbrev pub Premises : File → List Call → Type 0
-Premises f cs = PremisesFrom (untold f) fresh cs
+abbrev pub Premises : DeskRule → File → List Call → Type 0
+Premises rule f cs = PremisesFrom (untold f) (fresh rule) cs
 
 -- ---- the customer's sentence
 --
@@ -47,24 +48,24 @@ Premises f cs = PremisesFrom (untold f) fresh cs
 -- that acted on an OUT transfer was lent its begin's bytes, and an OUT stage was reported complete only after its marked packet was taken."
 
 -- "each started transfer ended with a count": the record is one of the grammar, its one reading is the transfers begun, and its packets are their cuttings.
-pub record Unbroken (f : File) (cs : List Call) : Type 0 where
+pub record Unbroken (rule : DeskRule) (f : File) (cs : List Call) : Type 0 where
   pub record-is : List Entry
-  pub is : wireRecord f cs ≡ map entry record-is
+  pub is : wireRecord rule f cs ≡ map entry record-is
   pub reading : PlainReading record-is
   pub only : (r : PlainReading record-is) → r .parts ≡ reading .parts
-  pub transfers : map item (reading .parts) ≡ map itemOf (listed (begunFrom fresh cs))
-  pub packets : map partEntries (reading .parts) ≡ map armedBy (listed (begunFrom fresh cs))
+  pub transfers : map item (reading .parts) ≡ map itemOf (listed (begunFrom (fresh rule) cs))
+  pub packets : map partEntries (reading .parts) ≡ map armedBy (listed (begunFrom (fresh rule) cs))
 
 -- A list of calls that meets the premises, without a failure, and has a given record. It also meets document 01's own premise on the bytes lent (`lent`), and none of
 -- its steps is refused.
-pub record ComesFrom (f : File) (r : List Entry) : Type 0 where
+pub record ComesFrom (rule : DeskRule) (f : File) (r : List Entry) : Type 0 where
   pub calls : List Call
   pub typed : AllTyped calls
-  pub premises : Premises f calls
-  pub lent : LentFrom (untold f) fresh calls
-  pub unrefused : UnrefusedFrom fresh calls
-  pub unbroken : brokenOf (fates f calls) ≡ []
-  pub is : wireRecord f calls ≡ map entry r
+  pub premises : Premises rule f calls
+  pub lent : LentFrom (untold f) (fresh rule) calls
+  pub unrefused : UnrefusedFrom (fresh rule) calls
+  pub unbroken : brokenOf (fates rule f calls) ≡ []
+  pub is : wireRecord rule f calls ≡ map entry r
 
 -- ---- runs with failures
 --
@@ -73,41 +74,41 @@ pub record ComesFrom (f : File) (r : List Entry) : Type 0 where
 -- need come from some list."
 -- The record has a reading and no other. Each transfer begun ended with a count or failed, in order, and the record is made of their entries; the reading's items
 -- are those of the transfers that ended with a count, its packets their cuttings, and the entries that each count counts are the first of the transfer that failed there.
-pub record Recorded (f : File) (cs : List Call) : Type 0 where
-  pub reading : Reading (wireRecord f cs)
-  pub only : (r : Reading (wireRecord f cs)) → (r .segments ≡ reading .segments) × (r .last ≡ reading .last)
-  pub begun : allOf (fates f cs) ≡ begunFrom fresh cs
-  pub made : Made (fates f cs) (wireRecord f cs)
-  pub transfers : map item (unfailed (reading .segments) (reading .last)) ≡ map itemOf (listed (endedOf (fates f cs)))
-  pub packets : map partEntries (unfailed (reading .segments) (reading .last)) ≡ map armedBy (listed (endedOf (fates f cs)))
-  pub firsts : FirstsOf (reading .segments) (brokenOf (fates f cs))
+pub record Recorded (rule : DeskRule) (f : File) (cs : List Call) : Type 0 where
+  pub reading : Reading (wireRecord rule f cs)
+  pub only : (r : Reading (wireRecord rule f cs)) → (r .segments ≡ reading .segments) × (r .last ≡ reading .last)
+  pub begun : allOf (fates rule f cs) ≡ begunFrom (fresh rule) cs
+  pub made : Made (fates rule f cs) (wireRecord rule f cs)
+  pub transfers : map item (unfailed (reading .segments) (reading .last)) ≡ map itemOf (listed (endedOf (fates rule f cs)))
+  pub packets : map partEntries (unfailed (reading .segments) (reading .last)) ≡ map armedBy (listed (endedOf (fates rule f cs)))
+  pub firsts : FirstsOf (reading .segments) (brokenOf (fates rule f cs))
 
 -- ---- all of it
 --
 -- A begin answers document 01's row, so the transfers begun are those "that the table doesn't refuse" (`table`); the OUT stages of the premises are those in which
 -- OUT packets were armed (`stages`).
 pub record Term3 : Type 0 where
-  pub unbroken : (f : File) (cs : List Call) → AllTyped cs → Premises f cs → brokenOf (fates f cs) ≡ [] → Unbroken f cs
-  pub comes : (f : File) (r : List Entry) → PlainReading r → ComesFrom f r
-  pub recorded : (f : File) (cs : List Call) → AllTyped cs → Premises f cs → Recorded f cs
-  pub table : (f : File) (cs : List Call) → TableFrom (untold f) fresh cs
-  pub stages : (f : File) (cs : List Call) → AllTyped cs → StagesFrom false (untold f) fresh cs
+  pub unbroken : (rule : DeskRule) (f : File) (cs : List Call) → AllTyped cs → Premises rule f cs → brokenOf (fates rule f cs) ≡ [] → Unbroken rule f cs
+  pub comes : (rule : DeskRule) (f : File) (r : List Entry) → PlainReading r → ComesFrom rule f r
+  pub recorded : (rule : DeskRule) (f : File) (cs : List Call) → AllTyped cs → Premises rule f cs → Recorded rule f cs
+  pub table : (rule : DeskRule) (f : File) (cs : List Call) → TableFrom (untold f) (fresh rule) cs
+  pub stages : (rule : DeskRule) (f : File) (cs : List Call) → AllTyped cs → StagesFrom false (untold f) (fresh rule) cs
 
 -- ---- the record's answers, writer and reader
 
 -- The writer left the record's n bytes, head first; past them the record lent (l) is as it was.
-pub record Written (f : File) (cs : List Call) (l l′ : List ℕ) (n : ℕ) : Type 0 where
-  pub used : n ≡ length (recordOf (wireRecord f cs))
-  pub bytes : take n l′ ≡ recordOf (wireRecord f cs)
+pub record Written (rule : DeskRule) (f : File) (cs : List Call) (l l′ : List ℕ) (n : ℕ) : Type 0 where
+  pub used : n ≡ length (recordOf (wireRecord rule f cs))
+  pub bytes : take n l′ ≡ recordOf (wireRecord rule f cs)
   pub rest : drop n l′ ≡ drop n l
 
 -- The reader takes bytes s for version 2, accepts them, counts the transfers that ended with a count, bulk IN left out, and its cursor hands out the items of the
 -- record's one reading, whose bytes stand at their places.
-pub record ReadBack (f : File) (cs : List Call) (s : List ℕ) : Type 0 where
-  pub recorded : Recorded f cs
+pub record ReadBack (rule : DeskRule) (f : File) (cs : List Call) (s : List ℕ) : Type 0 where
+  pub recorded : Recorded rule f cs
   pub version : versionAt s ≡ 2
-  pub only : (a : Reply ℕ) → Verdict s a → a ≡ result (length (listed (endedOf (fates f cs))))
-  pub verdict : Verdict s (result (length (listed (endedOf (fates f cs)))))
+  pub only : (a : Reply ℕ) → Verdict s a → a ≡ result (length (listed (endedOf (fates rule f cs))))
+  pub verdict : Verdict s (result (length (listed (endedOf (fates rule f cs)))))
   pub items : itemsFrom (moves (recorded .reading .segments) (recorded .reading .last)) s firstAt ≡ answersFor (recorded .reading .segments) (recorded .reading .last) firstAt
   pub held : Held s (recorded .reading .segments) (recorded .reading .last) firstAt
 
@@ -115,11 +116,11 @@ pub record ReadBack (f : File) (cs : List Call) (s : List ℕ) : Type 0 where
 -- writer "leaves exactly the driver's record", and is refused nowhere if there is room; the reader reads it;
 -- any bytes that it accepts hand out their items, any bytes are a record in at most one way, and any bytes deserve at most one answer.
 pub record InBytes : Type 0 where
-  pub answered : (f : File) (cs : List Call) → AllTyped cs → wireRecord f cs ≡ answeredFrom fresh cs
-  pub counts : (f : File) (cs : List Call) → AllTyped cs → CountsTo 65536 (wireRecord f cs)
-  pub written : (f : File) (cs : List Call) → AllTyped cs → (l : List ℕ) (ms : ℕ → List ℕ) (l′ : List ℕ) (n : ℕ) → keptAll l ms cs ≡ kept l′ n → Written f cs l l′ n
-  pub room : (cs : List Call) → AllTyped cs → AllLent cs → (l : List ℕ) (ms : ℕ → List ℕ) → ((i : ℕ) → length (ms i) ≡ 4096) → length (recordOf (answeredFrom fresh cs)) ≤ length l → keptAll l ms cs ≡ refused → ⊥
-  pub read : (f : File) (cs : List Call) → AllTyped cs → Premises f cs → ReadBack f cs (recordOf (wireRecord f cs))
+  pub answered : (rule : DeskRule) (f : File) (cs : List Call) → AllTyped cs → wireRecord rule f cs ≡ answeredFrom (fresh rule) cs
+  pub counts : (rule : DeskRule) (f : File) (cs : List Call) → AllTyped cs → CountsTo 65536 (wireRecord rule f cs)
+  pub written : (rule : DeskRule) (f : File) (cs : List Call) → AllTyped cs → (l : List ℕ) (ms : ℕ → List ℕ) (l′ : List ℕ) (n : ℕ) → keptAll rule l ms cs ≡ kept l′ n → Written rule f cs l l′ n
+  pub room : (rule : DeskRule) (cs : List Call) → AllTyped cs → AllLent cs → (l : List ℕ) (ms : ℕ → List ℕ) → ((i : ℕ) → length (ms i) ≡ 4096) → length (recordOf (answeredFrom (fresh rule) cs)) ≤ length l → keptAll rule l ms cs ≡ refused → ⊥
+  pub read : (rule : DeskRule) (f : File) (cs : List Call) → AllTyped cs → Premises rule f cs → ReadBack rule f cs (recordOf (wireRecord rule f cs))
   pub accepted : (s : List ℕ) (n : ℕ) → Verdict s (result n) → Accepted s n
   pub one : (s : List ℕ) (v w : Whole s)
       → (v .two ≡ w .two) × (v .ms ≡ w .ms) × (v .reads .reading .segments ≡ w .reads .reading .segments) × (v .reads .reading .last ≡ w .reads .reading .last)

@@ -16,6 +16,7 @@ use crate::print::flush_rest;
 use crate::read::start;
 use crate::read::turn;
 use crate::state::fresh_state;
+use transfers::driver::DeskRule;
 
 // A proved loop has to end, and nothing says that the input does: it counts down from a number that no run uses up.
 fn main() {
@@ -27,7 +28,7 @@ fn main() {
     let mut bytes = [0u8; 131072];
     let mut record = [0u8; 131072];
     let mut out = [0u8; 600000];
-    let mut s = fresh_state(&mut pm, &mut record);
+    let mut s = fresh_state(DeskRule::One, &mut pm, &mut record);
     let mut place = start();
     let mut turns = u64::MAX;
     while turns > 0 && !place.ended {

@@ -24,6 +24,7 @@ use script::command::Stored;
 use script::line::parse;
 use script::text::put;
 use script::text::put_pairs;
+use transfers::driver::DeskRule;
 use transfers::host_controller::DataPhase;
 
 fn unreadable(mut s: State, number: u64, out: &mut [u8]) -> State {
@@ -40,10 +41,25 @@ fn done(mut s: State, out: &mut [u8]) -> State {
     s
 }
 
-fn fresh(at: usize, pm: &mut [u8], record: &mut [u8], out: &mut [u8]) -> State {
-    let mut s = fresh_state(pm, record);
+fn fresh(at: usize, rule: DeskRule, pm: &mut [u8], record: &mut [u8], out: &mut [u8]) -> State {
+    let mut s = fresh_state(rule, pm, record);
     s.at = ok(out, at);
     s
+}
+
+// The same desk rule again.
+fn fresh_again(s: State, pm: &mut [u8], record: &mut [u8], out: &mut [u8]) -> State {
+    let d = s.driver;
+    let rule = d.rule;
+    fresh(s.at, rule, pm, record, out)
+}
+
+fn desk_rule(number: u8) -> DeskRule {
+    if number == 2 {
+        DeskRule::Two
+    } else {
+        DeskRule::One
+    }
 }
 
 fn lend(mut s: State, l: Lent, out: &mut [u8]) -> State {
@@ -161,7 +177,8 @@ fn run(
     match c {
         Command::Skipped => s,
         Command::Wrong => unreadable(s, number, out),
-        Command::Fresh => fresh(s.at, pm, record, out),
+        Command::Fresh => fresh_again(s, pm, record, out),
+        Command::Rule(n) => fresh(s.at, desk_rule(n), pm, record, out),
         Command::Lend(l) => lend(s, l, out),
         Command::Memory(m) => memory(s, m, pm, bytes, out),
         Command::Buffer(n) => buffer(s, n, own, bytes, out),

@@ -7,6 +7,7 @@ use transfers::answers::Armed;
 use transfers::answers::OptionEntries;
 use transfers::answers::OptionOut;
 use transfers::answers::OptionSetup;
+use transfers::driver::DeskRule;
 use transfers::driver::Driver;
 
 // `memory` and `words` are lent to the calls. `length` is that of begin's buffer, `bulk` begin's kind; `own` is the length of a
@@ -33,9 +34,9 @@ pub fn nothing_armed() -> Armed {
     }
 }
 
-fn empty_state() -> State {
+fn empty_state(rule: DeskRule) -> State {
     State {
-        driver: Driver::new(),
+        driver: Driver::new(rule),
         memory: 4096,
         words: 192,
         length: 0,
@@ -48,12 +49,12 @@ fn empty_state() -> State {
     }
 }
 
-// As after `fresh`.
-pub fn fresh_state(pm: &mut [u8], record: &mut [u8]) -> State {
+// As after `fresh`, with a driver of this desk rule.
+pub fn fresh_state(rule: DeskRule, pm: &mut [u8], record: &mut [u8]) -> State {
     let zeros = [0u8; 4096];
     put(pm, 0, &zeros);
     write_record(
-        empty_state(),
+        empty_state(rule),
         nothing_armed(),
         OptionEntries::None,
         pm,

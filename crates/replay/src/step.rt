@@ -46,16 +46,32 @@ fn print_stepped(out: &mut [u8], at: usize, a: StepAnswer, bulk: bool, toggle: b
     }
 }
 
-// Of a transfer that failed or was cancelled, how many entries it had armed.
-fn print_failed(out: &mut [u8], at: usize, failed: OptionEntries) -> usize {
+// Of a transfer that failed or was cancelled, a bulk's toggle and how many entries it had armed.
+fn print_failed(
+    out: &mut [u8],
+    at: usize,
+    failed: OptionEntries,
+    bulk: bool,
+    toggle: bool,
+) -> usize {
     match failed {
         OptionEntries::None => at,
-        OptionEntries::Some(n) => print_count(out, at, n as u64),
+        OptionEntries::Some(n) => {
+            let at = print_failed_toggle(out, at, bulk, toggle);
+            print_named(out, at, b"failed", n as u64)
+        }
     }
 }
 
-fn print_count(out: &mut [u8], at: usize, n: u64) -> usize {
-    let at = put(out, at, b"failed");
+fn print_failed_toggle(out: &mut [u8], at: usize, bulk: bool, toggle: bool) -> usize {
+    if !bulk {
+        return at;
+    }
+    print_named(out, at, b"toggle", number_of(toggle) as u64)
+}
+
+fn print_named(out: &mut [u8], at: usize, name: &[u8], n: u64) -> usize {
+    let at = put(out, at, name);
     let at = item(out, at, n);
     end(out, at)
 }
@@ -75,7 +91,7 @@ fn report(
     let failed = p.failed;
     s.driver = next;
     let at = print_stepped(out, s.at, a, s.bulk, p.toggle);
-    let at = print_failed(out, at, failed);
+    let at = print_failed(out, at, failed, s.bulk, p.toggle);
     s.at = print_effects(out, at, log, p.writes, armed, old, pm);
     write_record(s, armed, failed, pm, record)
 }
@@ -184,7 +200,7 @@ pub fn cancel(mut s: State, pm: &[u8], record: &mut [u8], out: &mut [u8]) -> Sta
     let failed = c.failed;
     s.driver = next;
     let at = print_cancel(out, s.at, a);
-    let at = print_failed(out, at, failed);
+    let at = print_failed(out, at, failed, s.bulk, c.toggle);
     s.at = block_end(out, at);
     write_record(s, nothing_armed(), failed, pm, record)
 }

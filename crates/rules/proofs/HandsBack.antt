@@ -42,6 +42,8 @@ use Rattle.transfers.specs.declared.pipes.PollAnswer.{PollAnswer}
 use Rattle.transfers.specs.declared.pipes.PollAnswer.the-variants.{Packet as PolledPacket, Waiting as PollWaiting, Refused as PollRefused}
 use Rattle.transfers.specs.declared.detect.DetectAnswer.{DetectAnswer}
 use Rattle.transfers.specs.declared.detect.DetectAnswer.the-variants.{Changed, Waiting as DetectWaiting, Refused as DetectRefused}
+use Rattle.transfers.specs.declared.driver.DeskRule.{DeskRule}
+use Rattle.transfers.specs.declared.driver.DeskRule.the-variants.{One, Two}
 use Rattle.transfers.specs.declared.driver.Driver.{Driver}
 use Rattle.transfers.specs.declared.driver.Transfer.{Transfer}
 use Rattle.transfers.specs.declared.driver.Transfer.the-variants.{Idle, Busy}
@@ -62,10 +64,10 @@ use Rattle.transfers.specs.Reply.{Reply, result, number, beginReply, StepResult
 use Rattle.transfers.specs.Sample.{errors, firstOf, classify}
 use Rattle.transfers.specs.Retiring.{InRetiring, inRetireOne}
 use Rattle.transfers.specs.State.{controlOf, addressGood, endpointGood, sizeGood}
-use Rattle.transfers.specs.Outcome.{Outcome, toggleIn, waits, failed}
+use Rattle.transfers.specs.Outcome.{Outcome, toggleIn, toggleOut, waits, failed}
 use Rattle.transfers.specs.Step.{setupDone, setupStep, inReceived, inDone, inSecondDone, inFirstDone, inComplete, inSecondMoved, inFirstMoved, inRearm, inMove, inStep, outRetireTwo, outControlDone, outDone, outComplete, outMove, outStep, lent, keeping, stageStep, polls, acts}
-use Rattle.transfers.specs.Calls.{heldToggle, refuses, stepIf, mayStep, stepLent, stepOf, cancelIf, eitherServes, cancelOf, Beginning, fieldsRefusal, beginRefusal, beginOr, isIdle, beginsControl, beginControlOf, bulkRequest, beginsBulkIn, beginBulkInOf, beginsBulkOut, beginBulkOutOf}
-use Rattle.transfers.specs.Driver.{dropped}
+use Rattle.transfers.specs.Calls.{heldToggle, refuses, stepIf, mayStep, stepLent, stepOf, cancelIf, stageParity, eitherServes, cancelOf, Beginning, fieldsRefusal, beginRefusal, beginOr, isIdle, beginsControl, beginControlOf, bulkRequest, beginsBulkIn, beginBulkInOf, beginsBulkOut, beginBulkOutOf}
+use Rattle.transfers.specs.Driver.{withTransfer, handedOut, dropped}
 use Rattle.transfers.specs.Pipes.{opening, closing, indexOpen, packetData, packetOf, pollFull, pollIf, pollingPipe, polling, withPipes}
 use Rattle.transfers.specs.Irq.{clearWrites, wakingIf, waking}
 use Rattle.transfers.specs.Detect.{statusAt, statusOf, sameStatus, detectingIf, detectingStatus, withLast, detecting}
@@ -73,39 +75,47 @@ use Rattle.transfers.proofs.Statuses.{same-status, other-status}
 use Rattle.transfers.proofs.Untouched.{open-refused, close-refused, poll-refused, detect-refused}
 use Rattle.rules.specs.Received.{quiet}
 use Rattle.rules.proofs.GoesOn.{GoesOn, step-every}
-use Rattle.rules.specs.HandsBack.{LeavesAlone, HandsOn, noneArmed, endsTransfer, hasActed, BeginUntouched, StepUntouched, RefusedUntouched, kindToggle, cameWith, KeepsToggle, Frees, clearsStatus, enablesWaiting, StepWrites, areaBytes, lengthOut, PollHandsOut, atSpeed, statusShown, clearsBuffers, HandsBack}
+use Rattle.rules.specs.HandsBack.{LeavesAlone, ByRule, HandsOn, noneArmed, endsTransfer, hasActed, BeginUntouched, StepUntouched, RefusedUntouched, kindToggle, cameWith, KeepsToggle, Frees, clearsStatus, enablesWaiting, StepWrites, areaBytes, lengthOut, PollHandsOut, atSpeed, statusShown, clearsBuffers, HandsBack}
 
 leaves-alone : LeavesAlone
 leaves-alone = record {
-  begin = λ d o. (refl, refl);
-  step = λ d o. (refl, refl);
-  cancel = λ d o. (refl, refl);
-  opens = λ d a x e p i log. (refl, refl, refl);
-  close = λ d n. (refl, refl, refl);
-  poll = λ d n s pm log. (refl, refl, refl);
-  detect = λ d sie log. (refl, refl, refl);
+  begin = λ d o. (refl, refl, refl);
+  step = λ d o. (refl, refl, refl);
+  cancel = λ d o. (refl, refl, refl);
+  opens = λ d a x e p i log. (refl, refl, refl, refl);
+  close = λ d n. (refl, refl, refl, refl);
+  poll = λ d n s pm log. (refl, refl, refl, refl);
+  detect = λ d sie log. (refl, refl, refl, refl);
 }
 
+by-rule : (r : DeskRule) (t v : Bool) → ByRule r t v (handedOut r t v)
+by-rule One t v = refl
+by-rule Two t v = refl
+
 hands-on : HandsOn
-hands-on = record { begin = λ d o. (refl, refl, refl, refl); step = λ d o. (refl, refl, refl, refl, refl); cancel = λ d o. (refl, refl, refl) }
+hands-on = record {
+  begin = λ d o. (refl, refl, refl, refl);
+  step = λ d o. (refl, refl, by-rule (d .rule) (o .toggle) (o .moved), refl, refl);
+  cancel = λ d o. (refl, refl, by-rule (d .rule) (o .toggle) (o .moved));
+}
 
 -- ---- a step that acts
 
-same-toggle : (k : Kind) → toggleIn k ≡ kindToggle k
+pub same-toggle : (k : Kind) → toggleIn k ≡ kindToggle k
 same-toggle (control c) = refl
 same-toggle (bulk b) = refl
 
 -- By its answer: the toggle handed out, and the next state.
-abbrev Fair : Bool → StepAnswer → Bool → Transfer → Type 0
+abbrev pub Fair : Bool → StepAnswer → Bool → Transfer → Type 0
 Fair b (Waiting again) g t = (g ≡ b) × (cameWith t ≡ b)
 Fair b (Done count) g t = t ≡ Idle
 Fair b (Refused why) g t = (g ≡ b) × (t ≡ Idle) × (endsTransfer (numberOf why) ≡ true)
 
-abbrev FairOf : Request → Outcome → Type 0
+abbrev pub FairOf : Request → Outcome → Type 0
 FairOf x o = Fair (kindToggle (x .kind)) (o .answer) (o .toggle) (o .next)
 
-failed-fair : (x : Request) (e : UsbError) (m buf : List ℕ) → endsTransfer (errorNumber e) ≡ true → FairOf x (failed x e m buf)
-failed-fair x e m buf h = (same-toggle (x .kind), refl, h)
+failed-fair : (x : Request) (parity : Bool) (e : UsbError) (m buf : List ℕ) → endsTransfer (errorNumber e) ≡ true → FairOf x (failed x parity e m buf)
+failed-fair x parity e m buf h = (same-toggle (x .kind), refl, h)
 
 keeping-fair : (x : Request) (s : Bool) (buf : List ℕ) (o : Outcome) → FairOf x o → FairOf x (keeping s buf o)
 keeping-fair x true buf o h = h
@@ -178,11 +188,11 @@ complete-fair x (outStage st) w buf m =
 
 error-fair : (e : UsbError) (x : Request) (st : Stage) (w : ℕ) (buf m : List ℕ) → endsTransfer (errorNumber e) ≡ true → FairOf x (stageStep (Failed e) x st w buf m)
 unfolding setupStep inStep outStep
-error-fair e x setupStage w buf m h = failed-fair x e m buf h
+error-fair e x setupStage w buf m h = failed-fair x false e m buf h
 error-fair e x (inStage st) w buf m h =
-    keeping-fair x (st .status) buf (inStep (Failed e) x st w (lent (st .status) buf) m) (failed-fair x e m (lent (st .status) buf) h)
+    keeping-fair x (st .status) buf (inStep (Failed e) x st w (lent (st .status) buf) m) (failed-fair x (st .retire) e m (lent (st .status) buf) h)
 error-fair e x (outStage st) w buf m h =
-    keeping-fair x (st .status) buf (outStep (Failed e) x st w (lent (st .status) buf) m) (failed-fair x e m (lent (st .status) buf) h)
+    keeping-fair x (st .status) buf (outStep (Failed e) x st w (lent (st .status) buf) m) (failed-fair x (st .retire) e m (lent (st .status) buf) h)
 
 goes-on-fair : (x : Request) (st : Stage) (w : ℕ) (buf m : List ℕ) → FairOf x (stageStep Neither x st w buf m)
 unfolding setupStep inStep outStep outMove
@@ -192,7 +202,7 @@ goes-on-fair x (inStage st) w buf m =
 goes-on-fair x (outStage st) w buf m =
     keeping-fair x (st .status) buf (outStep Neither x st w (lent (st .status) buf) m) (same-toggle (x .kind), refl)
 
-acts-fair : (x : Request) (st : Stage) (s : Sample) (buf m : List ℕ) → FairOf x (acts x st s buf m)
+pub acts-fair : (x : Request) (st : Stage) (s : Sample) (buf m : List ℕ) → FairOf x (acts x st s buf m)
 unfolding acts classify
 acts-fair x st s buf m = polled (eqb (bitAnd (s .intr) 0x7F8) 0) (bit 18 (s .status))
   where
@@ -307,13 +317,13 @@ cancel-refused : (d : Driver) (n : ℕ) → cancelReply (cancelOf (d .transfer) 
 unfolding cancelOf
 cancel-refused d n = go (d .transfer) refl
   where
-    stays : (t : Transfer) → d .transfer ≡ t → (v g : Bool) → cancelReply (cancelIf v t g .answer) ≡ number n → dropped d (cancelIf v t g) .next ≡ d
-    stays t q false g e = ap (λ (t : Transfer). record { transfer = t; entries = d .entries; pipes = d .pipes; last = d .last }) (sym q)
-    stays t q true g e = absurd (let z : _≡_ {A = ℕ} 0 1 = cc in omega arith)
+    stays : (t : Transfer) → d .transfer ≡ t → (v g k : Bool) → cancelReply (cancelIf v t g k .answer) ≡ number n → dropped d (cancelIf v t g k) .next ≡ d
+    stays t q false g k e = ap (λ (t : Transfer). withTransfer d t (d .entries)) (sym q)
+    stays t q true g k e = absurd (let z : _≡_ {A = ℕ} 0 1 = cc in omega arith)
 
     go : (t : Transfer) → d .transfer ≡ t → cancelReply (cancelOf t .answer) ≡ number n → dropped d (cancelOf t) .next ≡ d
-    go Idle q e = stays Idle q false false e
-    go (Busy r) q e = stays (Busy r) q (eitherServes r) (toggleIn (r .request .kind)) e
+    go Idle q e = stays Idle q false false false e
+    go (Busy r) q e = stays (Busy r) q (eitherServes r) (toggleIn (r .request .kind)) (toggleOut (r .request .kind) (stageParity (r .stage))) e
 
 open-why : (a : OpenAnswer) (n : ℕ) (A : Type 0) → openReply a ≡ number n → ((why : Refusal) → a ≡ OpenRefused why → A) → A
 open-why (Opened p) n A e k = absurd (let z : _≡_ {A = ℕ} 0 1 = cc in omega arith)
@@ -397,7 +407,7 @@ unfolding cancelOf
 cancel-toggle Idle = refl
 cancel-toggle (Busy r) = go (eitherServes r)
   where
-    go : (v : Bool) → cancelIf v (Busy r) (toggleIn (r .request .kind)) .toggle ≡ kindToggle (r .request .kind)
+    go : (v : Bool) → cancelIf v (Busy r) (toggleIn (r .request .kind)) (toggleOut (r .request .kind) (stageParity (r .stage))) .toggle ≡ kindToggle (r .request .kind)
     go true = same-toggle (r .request .kind)
     go false = same-toggle (r .request .kind)
 
@@ -429,7 +439,7 @@ unfolding cancelOf
 cancel-frees Idle e = refl
 cancel-frees (Busy r) e = go (eitherServes r) e
   where
-    go : (v : Bool) → cancelReply (cancelIf v (Busy r) (toggleIn (r .request .kind)) .answer) ≡ result tt → cancelIf v (Busy r) (toggleIn (r .request .kind)) .next ≡ Idle
+    go : (v : Bool) → let o = cancelIf v (Busy r) (toggleIn (r .request .kind)) (toggleOut (r .request .kind) (stageParity (r .stage))) in cancelReply (o .answer) ≡ result tt → o .next ≡ Idle
     go true e = refl
     go false e = absurd (let z : _≡_ {A = ℕ} 0 1 = cc in omega arith)
 

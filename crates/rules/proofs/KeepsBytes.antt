@@ -53,9 +53,9 @@ use Rattle.transfers.specs.Sample.{errors, firstOf, classify, full, lengthIn}
 use Rattle.transfers.specs.Retiring.{InRetiring, inTaken, inRetireIf, inRetireOne}
 use Rattle.transfers.specs.Ready.{InIsStatus}
 use Rattle.transfers.specs.State.{controlOf, targetOf, addressGood, endpointGood, sizeGood}
-use Rattle.transfers.specs.Outcome.{Outcome, startIn}
+use Rattle.transfers.specs.Outcome.{Outcome, toggleOut, startIn}
 use Rattle.transfers.specs.Step.{setupDone, setupStep, inReceived, inDone, inSecondDone, inFirstDone, inComplete, inSecondMoved, inFirstMoved, inRearm, inMove, inStep, outRetireTwo, outControlDone, outDone, outComplete, outMove, outStep, lent, keeping, stageStep, polls, acts}
-use Rattle.transfers.specs.Calls.{refuses, stepIf, mayStep, stepLent, stepOf, wellFormed, isIdle, fieldsRefusal, beginRefusal, Beginning, bulkRequest, beginsBulkIn, beginBulkInOf, beginControlOf}
+use Rattle.transfers.specs.Calls.{refuses, stageParity, stepIf, mayStep, stepLent, stepOf, wellFormed, isIdle, fieldsRefusal, beginRefusal, Beginning, bulkRequest, beginsBulkIn, beginBulkInOf, beginControlOf}
 use Rattle.transfers.proofs.OpenPipes.{between, lent-sizes}
 use Rattle.transfers.proofs.Beginnings.{none-fields, bulk-good}
 use Rattle.transfers.proofs.WellFormed.{step-well, begin-bulk-in-well}
@@ -70,52 +70,58 @@ use Rattle.rules.proofs.ControlIn.{control-so-far}
 no : {A : Type 0} → true ≡ false → A
 no e = absurd (true≢false e)
 
--- ---- a step that acts, by its answer: a number other than 9 with the buffer as lent, or 9
+-- ---- a step that acts, by its answer: a number other than 9 with the buffer as lent and v₀ for desk rule 2's toggle, or 9; else the rules' toggles don't differ
 
-abbrev Keeps : List ℕ → (List ℕ → Type 0) → StepAnswer → List ℕ → Type 0
-Keeps buf Nine (Waiting again) b = Unit {0}
-Keeps buf Nine (Done count) b = Unit {0}
-Keeps buf Nine (Refused why) b = ((b ≡ buf) × (eqb (numberOf why) 9 ≡ false)) ⊎ (Nine b × (eqb (numberOf why) 9 ≡ true))
+-- The transfer is still under way, as its begin asked for it.
+abbrev pub StaysWith : Request → Transfer → Type 0
+StaysWith x Idle = ⊥
+StaysWith x (Busy r) = r .request ≡ x
 
-abbrev KeepsOf : List ℕ → (List ℕ → Type 0) → Outcome → Type 0
-KeepsOf buf Nine o = Keeps buf Nine (o .answer) (o .buffer)
+abbrev pub Keeps : List ℕ → Request → Bool → (List ℕ → Bool → Type 0) → StepAnswer → List ℕ → Bool → Bool → Transfer → Type 0
+Keeps buf x v₀ Nine (Waiting again) b t v n = (v ≡ t) × StaysWith x n
+Keeps buf x v₀ Nine (Done count) b t v n = v ≡ t
+Keeps buf x v₀ Nine (Refused why) b t v n = ((b ≡ buf) × (v ≡ v₀) × (eqb (numberOf why) 9 ≡ false)) ⊎ (Nine b v × (eqb (numberOf why) 9 ≡ true))
+
+abbrev pub KeepsOf : List ℕ → Request → Bool → (List ℕ → Bool → Type 0) → Outcome → Type 0
+KeepsOf buf x v₀ Nine o = Keeps buf x v₀ Nine (o .answer) (o .buffer) (o .toggle) (o .moved) (o .next)
 
 -- The first slot, and the second after it.
-abbrev firstOne : InStage → ℕ → List ℕ → List ℕ → InRetiring
+abbrev pub firstOne : InStage → ℕ → List ℕ → List ℕ → InRetiring
 firstOne st w buf m = inRetireOne w (inReceived st) (st .inflight) buf m
 
-abbrev secondOne : ℕ → InRetiring → List ℕ → InRetiring
+abbrev pub secondOne : ℕ → InRetiring → List ℕ → InRetiring
 secondOne w g m = inRetireOne w (g .packets) (g .inflight) (g .buffer) m
 
 -- One of the two is long.
-abbrev Long : InStage → ℕ → List ℕ → List ℕ → Type 0
+abbrev pub Long : InStage → ℕ → List ℕ → List ℕ → Type 0
 Long st w buf m = let g = firstOne st w buf m in (g .long ≡ true) ⊎ ((g .long ≡ false) × (secondOne w g m .long ≡ true))
 
--- The long packet isn't copied.
-long-stays : (w : ℕ) (c : InDepacketiser) (k : ℕ) (buf m : List ℕ) → inRetireOne w c k buf m .long ≡ true → inRetireOne w c k buf m .buffer ≡ buf
+-- The long packet isn't copied, and doesn't count.
+long-stays : (w : ℕ) (c : InDepacketiser) (k : ℕ) (buf m : List ℕ) → inRetireOne w c k buf m .long ≡ true
+    → (inRetireOne w c k buf m .buffer ≡ buf) × (inRetireOne w c k buf m .packets .parity ≡ c .parity)
 unfolding inRetireOne
 long-stays w c k buf m = go (ltb 0 k && full w (c .parity)) (ltb 64 (lengthIn w (c .parity)))
   where
-    taken : (l : Bool) → inTaken l (lengthIn w (c .parity)) c k buf m .long ≡ true → inTaken l (lengthIn w (c .parity)) c k buf m .buffer ≡ buf
-    taken true e = refl
+    taken : (l : Bool) → let g = inTaken l (lengthIn w (c .parity)) c k buf m in g .long ≡ true → (g .buffer ≡ buf) × (g .packets .parity ≡ c .parity)
+    taken true e = (refl, refl)
     taken false e = no (sym e)
 
-    go : (t l : Bool) → inRetireIf t (lengthIn w (c .parity)) c k buf m .long ≡ true → inRetireIf t (lengthIn w (c .parity)) c k buf m .buffer ≡ buf
-    go false l e = refl
+    go : (t l : Bool) → let g = inRetireIf t (lengthIn w (c .parity)) c k buf m in g .long ≡ true → (g .buffer ≡ buf) × (g .packets .parity ≡ c .parity)
+    go false l e = (refl, refl)
     go true l e = taken (ltb 64 (lengthIn w (c .parity))) e
 
--- At 9: which slot is long, and the buffer after the first.
-abbrev Held : InStage → ℕ → List ℕ → List ℕ → List ℕ → Type 0
-Held st w buf m b = Long st w buf m × (b ≡ firstOne st w buf m .buffer)
+-- At 9: which slot is long, the buffer after the first, and the toggle by the packets retired.
+abbrev pub Held : Kind → InStage → ℕ → List ℕ → List ℕ → List ℕ → Bool → Type 0
+Held k st w buf m b v = Long st w buf m × (b ≡ firstOne st w buf m .buffer) × (v ≡ toggleOut k (firstOne st w buf m .packets .parity))
 
-in-done-keeps : (N : List ℕ → Type 0) (k : Kind) (status : Bool) (x : Request) (d : InDepacketiser) (l m buf : List ℕ) → KeepsOf l N (inDone k status x d m buf)
-in-done-keeps N (control c) true x d l m buf = tt
-in-done-keeps N (control c) false x d l m buf = tt
-in-done-keeps N (bulk b) status x d l m buf = tt
+in-done-keeps : (v₀ : Bool) (N : List ℕ → Bool → Type 0) (k : Kind) (status : Bool) (x : Request) (d : InDepacketiser) (l m buf : List ℕ) → KeepsOf l x v₀ N (inDone k status x d m buf)
+in-done-keeps v₀ N (control c) true x d l m buf = refl
+in-done-keeps v₀ N (control c) false x d l m buf = (refl, refl)
+in-done-keeps v₀ N (bulk b) status x d l m buf = refl
 
-in-complete-keeps : (x : Request) (st : InStage) (w : ℕ) (buf m : List ℕ) → KeepsOf buf (Held st w buf m) (inComplete x st w buf m)
+in-complete-keeps : (v₀ : Bool) (x : Request) (st : InStage) (w : ℕ) (buf m : List ℕ) → KeepsOf buf x v₀ (Held (x .kind) st w buf m) (inComplete x st w buf m)
 unfolding inComplete
-in-complete-keeps x st w buf m = go (g .long) refl
+in-complete-keeps v₀ x st w buf m = go (g .long) refl
   where
     g : InRetiring
     g = firstOne st w buf m
@@ -123,17 +129,17 @@ in-complete-keeps x st w buf m = go (g .long) refl
     h : InRetiring
     h = secondOne w g m
 
-    second : g .long ≡ false → (b : Bool) → h .long ≡ b → KeepsOf buf (Held st w buf m) (inSecondDone b h x (st .status) m)
-    second f true e = inr ((inr (f, e), long-stays w (g .packets) (g .inflight) (g .buffer) m e), refl)
-    second f false e = in-done-keeps (Held st w buf m) (x .kind) (st .status) x (h .packets) buf m (h .buffer)
+    second : g .long ≡ false → (b : Bool) → h .long ≡ b → KeepsOf buf x v₀ (Held (x .kind) st w buf m) (inSecondDone b h x (st .status) m)
+    second f true e = let z = long-stays w (g .packets) (g .inflight) (g .buffer) m e in inr ((inr (f, e), z .0, ap (toggleOut (x .kind)) (z .1)), refl)
+    second f false e = in-done-keeps v₀ (Held (x .kind) st w buf m) (x .kind) (st .status) x (h .packets) buf m (h .buffer)
 
-    go : (b : Bool) → g .long ≡ b → KeepsOf buf (Held st w buf m) (inFirstDone b g w x (st .status) m)
-    go true e = inr ((inl e, refl), refl)
+    go : (b : Bool) → g .long ≡ b → KeepsOf buf x v₀ (Held (x .kind) st w buf m) (inFirstDone b g w x (st .status) m)
+    go true e = inr ((inl e, refl, refl), refl)
     go false e = second e (h .long) refl
 
-in-move-keeps : (x : Request) (st : InStage) (w : ℕ) (buf m : List ℕ) → KeepsOf buf (Held st w buf m) (inMove x st w buf m)
+in-move-keeps : (v₀ : Bool) (x : Request) (st : InStage) (w : ℕ) (buf m : List ℕ) → KeepsOf buf x v₀ (Held (x .kind) st w buf m) (inMove x st w buf m)
 unfolding inMove inRearm
-in-move-keeps x st w buf m = go (g .long) refl
+in-move-keeps v₀ x st w buf m = go (g .long) refl
   where
     g : InRetiring
     g = firstOne st w buf m
@@ -141,84 +147,91 @@ in-move-keeps x st w buf m = go (g .long) refl
     h : InRetiring
     h = secondOne w g m
 
-    second : g .long ≡ false → (b : Bool) → h .long ≡ b → KeepsOf buf (Held st w buf m) (inSecondMoved b h w x st m)
-    second f true e = inr ((inr (f, e), long-stays w (g .packets) (g .inflight) (g .buffer) m e), refl)
-    second f false e = tt
+    second : g .long ≡ false → (b : Bool) → h .long ≡ b → KeepsOf buf x v₀ (Held (x .kind) st w buf m) (inSecondMoved b h w x st m)
+    second f true e = let z = long-stays w (g .packets) (g .inflight) (g .buffer) m e in inr ((inr (f, e), z .0, ap (toggleOut (x .kind)) (z .1)), refl)
+    second f false e = (refl, refl)
 
-    go : (b : Bool) → g .long ≡ b → KeepsOf buf (Held st w buf m) (inFirstMoved b g w x st m)
-    go true e = inr ((inl e, refl), refl)
+    go : (b : Bool) → g .long ≡ b → KeepsOf buf x v₀ (Held (x .kind) st w buf m) (inFirstMoved b g w x st m)
+    go true e = inr ((inl e, refl, refl), refl)
     go false e = second e (h .long) refl
 
 -- ---- by the stage
 
 -- In a status stage the caller's buffer stays.
-abbrev HeldBy : Bool → InStage → ℕ → List ℕ → List ℕ → List ℕ → Type 0
-HeldBy true st w buf m b = Long st w [] m × (b ≡ buf)
-HeldBy false st w buf m b = Held st w buf m b
+abbrev pub HeldBy : Kind → Bool → InStage → ℕ → List ℕ → List ℕ → List ℕ → Bool → Type 0
+HeldBy k true st w buf m b v = Long st w [] m × (b ≡ buf) × (v ≡ toggleOut k (firstOne st w [] m .packets .parity))
+HeldBy k false st w buf m b v = Held k st w buf m b v
 
-abbrev Nine : Stage → ℕ → List ℕ → List ℕ → List ℕ → Type 0
-Nine setupStage w buf m b = ⊥
-Nine (inStage st) w buf m b = HeldBy (st .status) st w buf m b
-Nine (outStage st) w buf m b = ⊥
+abbrev pub Nine : Kind → Stage → ℕ → List ℕ → List ℕ → List ℕ → Bool → Type 0
+Nine k setupStage w buf m b v = ⊥
+Nine k (inStage st) w buf m b v = HeldBy k (st .status) st w buf m b v
+Nine k (outStage st) w buf m b v = ⊥
 
-in-keeping : (s : Bool) (st : InStage) (w : ℕ) (buf m : List ℕ) (o : Outcome) → KeepsOf (lent s buf) (Held st w (lent s buf) m) o → KeepsOf buf (HeldBy s st w buf m) (keeping s buf o)
-in-keeping false st w buf m o h = h
-in-keeping true st w buf m o h = by (o .answer) h
+in-keeping : (x : Request) (v₀ : Bool) (k : Kind) (s : Bool) (st : InStage) (w : ℕ) (buf m : List ℕ) (o : Outcome) → KeepsOf (lent s buf) x v₀ (Held k st w (lent s buf) m) o → KeepsOf buf x v₀ (HeldBy k s st w buf m) (keeping s buf o)
+in-keeping x v₀ k false st w buf m o h = h
+in-keeping x v₀ k true st w buf m o h = by (o .answer) h
   where
-    by : (a : StepAnswer) → Keeps [] (Held st w [] m) a (o .buffer) → Keeps buf (HeldBy true st w buf m) a buf
-    by (Waiting again) h = tt
-    by (Done count) h = tt
-    by (Refused why) (inl e) = inl (refl, e .1)
-    by (Refused why) (inr e) = inr ((e .0 .0, refl), e .1)
+    by : (a : StepAnswer) → Keeps [] x v₀ (Held k st w [] m) a (o .buffer) (o .toggle) (o .moved) (o .next) → Keeps buf x v₀ (HeldBy k true st w buf m) a buf (o .toggle) (o .moved) (o .next)
+    by (Waiting again) h = h
+    by (Done count) h = h
+    by (Refused why) (inl e) = inl (refl, e .1, e .2)
+    by (Refused why) (inr e) = inr ((e .0 .0, refl, e .0 .2), e .1)
 
-out-keeping : (s : Bool) (buf : List ℕ) (o : Outcome) → KeepsOf (lent s buf) (λ (b : List ℕ). ⊥) o → KeepsOf buf (λ (b : List ℕ). ⊥) (keeping s buf o)
-out-keeping false buf o h = h
-out-keeping true buf o h = by (o .answer) h
+abbrev Never : List ℕ → Bool → Type 0
+Never b v = ⊥
+
+out-keeping : (x : Request) (v₀ s : Bool) (buf : List ℕ) (o : Outcome) → KeepsOf (lent s buf) x v₀ Never o → KeepsOf buf x v₀ Never (keeping s buf o)
+out-keeping x v₀ false buf o h = h
+out-keeping x v₀ true buf o h = by (o .answer) h
   where
-    by : (a : StepAnswer) → Keeps [] (λ (b : List ℕ). ⊥) a (o .buffer) → Keeps buf (λ (b : List ℕ). ⊥) a buf
-    by (Waiting again) h = tt
-    by (Done count) h = tt
-    by (Refused why) (inl e) = inl (refl, e .1)
+    by : (a : StepAnswer) → Keeps [] x v₀ Never a (o .buffer) (o .toggle) (o .moved) (o .next) → Keeps buf x v₀ Never a buf (o .toggle) (o .moved) (o .next)
+    by (Waiting again) h = h
+    by (Done count) h = h
+    by (Refused why) (inl e) = inl (refl, e .1, e .2)
     by (Refused why) (inr e) = absurd (e .0)
 
-setup-keeps : (N : List ℕ → Type 0) (ph : DataPhase) (short : Bool) (x : Request) (n : ℕ) (buf m : List ℕ) → KeepsOf buf N (setupDone ph short x n buf m)
-setup-keeps N phaseIn true x n buf m = inl (refl, refl)
-setup-keeps N phaseIn false x n buf m = tt
-setup-keeps N phaseOut true x n buf m = inl (refl, refl)
-setup-keeps N phaseOut false x n buf m = tt
-setup-keeps N phaseNone short x n buf m = tt
+setup-keeps : (N : List ℕ → Bool → Type 0) (ph : DataPhase) (short : Bool) (x : Request) (n : ℕ) (buf m : List ℕ) → KeepsOf buf x (toggleOut (x .kind) false) N (setupDone ph short x n buf m)
+setup-keeps N phaseIn true x n buf m = inl (refl, refl, refl)
+setup-keeps N phaseIn false x n buf m = (refl, refl)
+setup-keeps N phaseOut true x n buf m = inl (refl, refl, refl)
+setup-keeps N phaseOut false x n buf m = (refl, refl)
+setup-keeps N phaseNone short x n buf m = (refl, refl)
 
-out-done-keeps : (N : List ℕ → Type 0) (k : Kind) (x : Request) (st : OutStage) (parity : Bool) (l m buf : List ℕ) → KeepsOf l N (outDone k x st parity m buf)
-out-done-keeps N (control c) x st parity l m buf = go (st .status)
+out-done-keeps : (v₀ : Bool) (N : List ℕ → Bool → Type 0) (k : Kind) (x : Request) (st : OutStage) (parity : Bool) (l m buf : List ℕ) → KeepsOf l x v₀ N (outDone k x st parity m buf)
+out-done-keeps v₀ N (control c) x st parity l m buf = go (st .status)
   where
-    go : (b : Bool) → KeepsOf l N (outControlDone b x (st .received) m buf)
-    go true = tt
-    go false = tt
-out-done-keeps N (bulk b) x st parity l m buf = tt
+    go : (b : Bool) → KeepsOf l x v₀ N (outControlDone b x (st .received) m buf)
+    go true = refl
+    go false = (refl, refl)
+out-done-keeps v₀ N (bulk b) x st parity l m buf = refl
 
-complete-keeps : (x : Request) (st : Stage) (w : ℕ) (buf m : List ℕ) → KeepsOf buf (Nine st w buf m) (stageStep Complete x st w buf m)
+-- The toggle of desk rule 2 where no packet is retired by the step.
+abbrev pub parityToggle : Request → Stage → Bool
+parityToggle x st = toggleOut (x .kind) (stageParity st)
+
+complete-keeps : (x : Request) (st : Stage) (w : ℕ) (buf m : List ℕ) → KeepsOf buf x (parityToggle x st) (Nine (x .kind) st w buf m) (stageStep Complete x st w buf m)
 unfolding setupStep inStep outStep outComplete
-complete-keeps x setupStage w buf m = let c = controlOf (x .kind) in setup-keeps (λ (b : List ℕ). ⊥) (c .phase) (ltb (x .length) (c .wLength)) x (c .wLength) buf m
+complete-keeps x setupStage w buf m = let c = controlOf (x .kind) in setup-keeps Never (c .phase) (ltb (x .length) (c .wLength)) x (c .wLength) buf m
 complete-keeps x (inStage st) w buf m =
-    in-keeping (st .status) st w buf m (inStep Complete x st w (lent (st .status) buf) m) (in-complete-keeps x st w (lent (st .status) buf) m)
+    in-keeping x (parityToggle x (inStage st)) (x .kind) (st .status) st w buf m (inStep Complete x st w (lent (st .status) buf) m) (in-complete-keeps (parityToggle x (inStage st)) x st w (lent (st .status) buf) m)
 complete-keeps x (outStage st) w buf m =
-    out-keeping (st .status) buf (outStep Complete x st w (lent (st .status) buf) m)
-    (out-done-keeps (λ (b : List ℕ). ⊥) (x .kind) x st (outRetireTwo w (st .retire) (st .inflight) .parity) (lent (st .status) buf) m (lent (st .status) buf))
+    out-keeping x (parityToggle x (outStage st)) (st .status) buf (outStep Complete x st w (lent (st .status) buf) m)
+    (out-done-keeps (parityToggle x (outStage st)) Never (x .kind) x st (outRetireTwo w (st .retire) (st .inflight) .parity) (lent (st .status) buf) m (lent (st .status) buf))
 
-error-keeps : (e : UsbError) (x : Request) (st : Stage) (w : ℕ) (buf m : List ℕ) → eqb (errorNumber e) 9 ≡ false → KeepsOf buf (Nine st w buf m) (stageStep (Failed e) x st w buf m)
+error-keeps : (e : UsbError) (x : Request) (st : Stage) (w : ℕ) (buf m : List ℕ) → eqb (errorNumber e) 9 ≡ false → KeepsOf buf x (parityToggle x st) (Nine (x .kind) st w buf m) (stageStep (Failed e) x st w buf m)
 unfolding setupStep inStep outStep
-error-keeps e x setupStage w buf m h = inl (refl, h)
-error-keeps e x (inStage st) w buf m h = in-keeping (st .status) st w buf m (inStep (Failed e) x st w (lent (st .status) buf) m) (inl (refl, h))
-error-keeps e x (outStage st) w buf m h = out-keeping (st .status) buf (outStep (Failed e) x st w (lent (st .status) buf) m) (inl (refl, h))
+error-keeps e x setupStage w buf m h = inl (refl, refl, h)
+error-keeps e x (inStage st) w buf m h = in-keeping x (parityToggle x (inStage st)) (x .kind) (st .status) st w buf m (inStep (Failed e) x st w (lent (st .status) buf) m) (inl (refl, refl, h))
+error-keeps e x (outStage st) w buf m h = out-keeping x (parityToggle x (outStage st)) (st .status) buf (outStep (Failed e) x st w (lent (st .status) buf) m) (inl (refl, refl, h))
 
-goes-on-keeps : (x : Request) (st : Stage) (w : ℕ) (buf m : List ℕ) → KeepsOf buf (Nine st w buf m) (stageStep Neither x st w buf m)
+goes-on-keeps : (x : Request) (st : Stage) (w : ℕ) (buf m : List ℕ) → KeepsOf buf x (parityToggle x st) (Nine (x .kind) st w buf m) (stageStep Neither x st w buf m)
 unfolding setupStep inStep outStep outMove
-goes-on-keeps x setupStage w buf m = tt
+goes-on-keeps x setupStage w buf m = (refl, refl)
 goes-on-keeps x (inStage st) w buf m =
-    in-keeping (st .status) st w buf m (inStep Neither x st w (lent (st .status) buf) m) (in-move-keeps x st w (lent (st .status) buf) m)
-goes-on-keeps x (outStage st) w buf m = out-keeping (st .status) buf (outStep Neither x st w (lent (st .status) buf) m) tt
+    in-keeping x (parityToggle x (inStage st)) (x .kind) (st .status) st w buf m (inStep Neither x st w (lent (st .status) buf) m) (in-move-keeps (parityToggle x (inStage st)) x st w (lent (st .status) buf) m)
+goes-on-keeps x (outStage st) w buf m = out-keeping x (parityToggle x (outStage st)) (st .status) buf (outStep Neither x st w (lent (st .status) buf) m) (refl, refl)
 
-acts-keeps : (x : Request) (st : Stage) (s : Sample) (buf m : List ℕ) → KeepsOf buf (Nine st (s .buffers) buf m) (acts x st s buf m)
+pub acts-keeps : (x : Request) (st : Stage) (s : Sample) (buf m : List ℕ) → KeepsOf buf x (parityToggle x st) (Nine (x .kind) st (s .buffers) buf m) (acts x st s buf m)
 unfolding acts classify
 acts-keeps x st s buf m = polled (eqb (bitAnd (s .intr) 0x7F8) 0) (bit 18 (s .status))
   where
@@ -226,7 +239,7 @@ acts-keeps x st s buf m = polled (eqb (bitAnd (s .intr) 0x7F8) 0) (bit 18 (s .st
     w = s .buffers
 
     error : (a b c d e f : Bool)
-        → KeepsOf buf (Nine st w buf m) (stageStep (cond a (Failed DataSeqError) (cond b (Failed Stall) (cond c (Failed Overflow)
+        → KeepsOf buf x (parityToggle x st) (Nine (x .kind) st w buf m) (stageStep (cond a (Failed DataSeqError) (cond b (Failed Stall) (cond c (Failed Overflow)
         (cond d (Failed Timeout) (cond e (Failed BitStuffError) (cond f (Failed CrcError) Neither)))))) x st w buf m)
     error true b c d e f = error-keeps DataSeqError x st w buf m refl
     error false true c d e f = error-keeps Stall x st w buf m refl
@@ -236,14 +249,14 @@ acts-keeps x st s buf m = polled (eqb (bitAnd (s .intr) 0x7F8) 0) (bit 18 (s .st
     error false false false false false true = error-keeps CrcError x st w buf m refl
     error false false false false false false = goes-on-keeps x st w buf m
 
-    polled : (z c : Bool) → KeepsOf buf (Nine st w buf m) (polls (cond z Pending (Ready (cond c Complete (firstOf (s .status) errors)))) x st w buf m)
-    polled true c = tt
+    polled : (z c : Bool) → KeepsOf buf x (parityToggle x st) (Nine (x .kind) st w buf m) (polls (cond z Pending (Ready (cond c Complete (firstOf (s .status) errors)))) x st w buf m)
+    polled true c = (refl, refl)
     polled false true = complete-keeps x st w buf m
     polled false false = error (bit 31 (s .status)) (bit 29 (s .status)) (bit 26 (s .status)) (bit 27 (s .status)) (bit 25 (s .status)) (bit 24 (s .status))
 
 -- ---- every step: refused with 15 or 16, or one that acts, with what the checks left
 
-by-busy : (P : Outcome → Type 0) (filling : Bool) (r : Run) (s : Sample) (buf m log : List ℕ) → P (refuses (Busy r) LentMemory m buf) → P (refuses (Busy r) State m buf)
+pub by-busy : (P : Outcome → Type 0) (filling : Bool) (r : Run) (s : Sample) (buf m log : List ℕ) → P (refuses (Busy r) LentMemory m buf) → P (refuses (Busy r) State m buf)
     → (mayStep filling r ≡ true → length buf ≡ r .request .length → lentFits m log ≡ true → P (acts (r .request) (r .stage) s buf m)) → P (stepOf filling (Busy r) s buf m log)
 unfolding stepOf
 by-busy P filling r s buf m log a b c = go (lentFits m log) refl
@@ -257,7 +270,7 @@ by-busy P filling r s buf m log a b c = go (lentFits m log) refl
     go false e = a
     go true e = may e (mayStep filling r) (eqb (length buf) (r .request .length)) refl refl
 
-by-idle : (P : Outcome → Type 0) (filling : Bool) (s : Sample) (buf m log : List ℕ) → P (refuses Idle LentMemory m buf) → P (refuses Idle State m buf) → P (stepOf filling Idle s buf m log)
+pub by-idle : (P : Outcome → Type 0) (filling : Bool) (s : Sample) (buf m log : List ℕ) → P (refuses Idle LentMemory m buf) → P (refuses Idle State m buf) → P (stepOf filling Idle s buf m log)
 unfolding stepOf
 by-idle P filling s buf m log a b = go (lentFits m log)
   where
@@ -271,17 +284,18 @@ clash {n = n} {r = r} e = absurd (let z : _≡_ {A = ℕ} 0 1 = cc in omega arit
 number-is : (k n : ℕ) → _≡_ {A = Reply StepResult} (number k) (number n) → k ≡ n
 number-is k n e = cc
 
-other-stays : (buf : List ℕ) (N : List ℕ → Type 0) (a : StepAnswer) (b : List ℕ) (n : ℕ) → Keeps buf N a b → stepReply a ≡ number n → (n ≡ 9 → ⊥) → b ≡ buf
-other-stays buf N (Waiting again) b n k e f = clash (sym e)
-other-stays buf N (Done count) b n k e f = clash (sym e)
-other-stays buf N (Refused why) b n (inl k) e f = k .0
-other-stays buf N (Refused why) b n (inr k) e f = absurd (f (sym (number-is (numberOf why) n e) ∙ eqb-true (numberOf why) 9 (k .1)))
+-- A number other than 9.
+other-stays : (buf : List ℕ) (x : Request) (v₀ : Bool) (N : List ℕ → Bool → Type 0) (a : StepAnswer) (b : List ℕ) (t v : Bool) (z : Transfer) (n : ℕ) → Keeps buf x v₀ N a b t v z → stepReply a ≡ number n → (n ≡ 9 → ⊥) → (b ≡ buf) × (v ≡ v₀)
+other-stays buf x v₀ N (Waiting again) b t v z n k e f = clash (sym e)
+other-stays buf x v₀ N (Done count) b t v z n k e f = clash (sym e)
+other-stays buf x v₀ N (Refused why) b t v z n (inl k) e f = (k .0, k .1)
+other-stays buf x v₀ N (Refused why) b t v z n (inr k) e f = absurd (f (sym (number-is (numberOf why) n e) ∙ eqb-true (numberOf why) 9 (k .1)))
 
-at-nine : (buf : List ℕ) (N : List ℕ → Type 0) (a : StepAnswer) (b : List ℕ) → Keeps buf N a b → stepReply a ≡ number 9 → N b
-at-nine buf N (Waiting again) b k e = clash (sym e)
-at-nine buf N (Done count) b k e = clash (sym e)
-at-nine buf N (Refused why) b (inl k) e = absurd (eqb-false (numberOf why) 9 (k .1) (number-is (numberOf why) 9 e))
-at-nine buf N (Refused why) b (inr k) e = k .0
+at-nine : (buf : List ℕ) (x : Request) (v₀ : Bool) (N : List ℕ → Bool → Type 0) (a : StepAnswer) (b : List ℕ) (t v : Bool) (z : Transfer) → Keeps buf x v₀ N a b t v z → stepReply a ≡ number 9 → N b v
+at-nine buf x v₀ N (Waiting again) b t v z k e = clash (sym e)
+at-nine buf x v₀ N (Done count) b t v z k e = clash (sym e)
+at-nine buf x v₀ N (Refused why) b t v z (inl k) e = absurd (eqb-false (numberOf why) 9 (k .2) (number-is (numberOf why) 9 e))
+at-nine buf x v₀ N (Refused why) b t v z (inr k) e = k .0
 
 failed-keeps : (filling : Bool) (t : Transfer) (s : Sample) (buf m log : List ℕ) (n : ℕ)
     → stepReply (stepOf filling t s buf m log .answer) ≡ number n → (n ≡ 9 → ⊥) → stepOf filling t s buf m log .buffer ≡ buf
@@ -290,7 +304,7 @@ failed-keeps filling Idle s buf m log n =
 failed-keeps filling (Busy r) s buf m log n =
     by-busy (λ (o : Outcome). stepReply (o .answer) ≡ number n → (n ≡ 9 → ⊥) → o .buffer ≡ buf) filling r s buf m log (λ e f. refl) (λ e f. refl)
     (λ v l g. let o = acts (r .request) (r .stage) s buf m in
-    other-stays buf (Nine (r .stage) (s .buffers) buf m) (o .answer) (o .buffer) n (acts-keeps (r .request) (r .stage) s buf m))
+    λ e f. other-stays buf (r .request) (parityToggle (r .request) (r .stage)) (Nine (r .request .kind) (r .stage) (s .buffers) buf m) (o .answer) (o .buffer) (o .toggle) (o .moved) (o .next) n (acts-keeps (r .request) (r .stage) s buf m) e f .0)
 
 -- ---- a step that sends
 
@@ -352,19 +366,19 @@ sends-same (Busy r) s buf m log = by-busy (λ (o : Outcome). o .buffer ≡ buf) 
 not-nine : {A : Type 0} (k : ℕ) → eqb k 9 ≡ false → _≡_ {A = Reply StepResult} (number k) (number 9) → A
 not-nine k f e = absurd (eqb-false k 9 f (number-is k 9 e))
 
-nine-in : (st : Stage) (w : ℕ) (buf m b : List ℕ) → Nine st w buf m b → isInStage st ≡ true
-nine-in setupStage w buf m b e = absurd e
-nine-in (inStage st) w buf m b e = refl
-nine-in (outStage st) w buf m b e = absurd e
+nine-in : (k : Kind) (st : Stage) (w : ℕ) (buf m b : List ℕ) (v : Bool) → Nine k st w buf m b v → isInStage st ≡ true
+nine-in k setupStage w buf m b v e = absurd e
+nine-in k (inStage st) w buf m b v e = refl
+nine-in k (outStage st) w buf m b v e = absurd e
 
-acts-nine : (x : Request) (st : Stage) (s : Sample) (buf m : List ℕ) → stepReply (acts x st s buf m .answer) ≡ number 9 → Nine st (s .buffers) buf m (acts x st s buf m .buffer)
-acts-nine x st s buf m e = let o = acts x st s buf m in at-nine buf (Nine st (s .buffers) buf m) (o .answer) (o .buffer) (acts-keeps x st s buf m) e
+acts-nine : (x : Request) (st : Stage) (s : Sample) (buf m : List ℕ) → stepReply (acts x st s buf m .answer) ≡ number 9 → Nine (x .kind) st (s .buffers) buf m (acts x st s buf m .buffer) (acts x st s buf m .moved)
+acts-nine x st s buf m e = let o = acts x st s buf m in at-nine buf x (parityToggle x st) (Nine (x .kind) st (s .buffers) buf m) (o .answer) (o .buffer) (o .toggle) (o .moved) (o .next) (acts-keeps x st s buf m) e
 
 only-in : (filling : Bool) (t : Transfer) (s : Sample) (buf m log : List ℕ) → stepReply (stepOf filling t s buf m log .answer) ≡ number 9 → receiving t ≡ true
 only-in filling Idle s buf m log = by-idle (λ (o : Outcome). stepReply (o .answer) ≡ number 9 → false ≡ true) filling s buf m log (not-nine 15 refl) (not-nine 16 refl)
 only-in filling (Busy r) s buf m log =
     by-busy (λ (o : Outcome). stepReply (o .answer) ≡ number 9 → isInStage (r .stage) ≡ true) filling r s buf m log (not-nine 15 refl) (not-nine 16 refl)
-    (λ v l g e. nine-in (r .stage) (s .buffers) buf m (acts (r .request) (r .stage) s buf m .buffer) (acts-nine (r .request) (r .stage) s buf m e))
+    (λ v l g e. nine-in (r .request .kind) (r .stage) (s .buffers) buf m (acts (r .request) (r .stage) s buf m .buffer) (acts (r .request) (r .stage) s buf m .moved) (acts-nine (r .request) (r .stage) s buf m e))
 
 -- A store from an offset on leaves what is below.
 store-below : (buf vs : List ℕ) (off : ℕ) → off + length vs ≤ length buf → take off (sets buf off vs) ≡ take off buf
@@ -396,10 +410,10 @@ one-below w c k buf m h = go (ltb 0 k && full w (c .parity))
     go false = (refl, refl)
     go true = taken (ltb 64 n)
 
-held-below : (s : Bool) (st : InStage) (w : ℕ) (buf m b : List ℕ) → st .offset + st .remain ≤ length (lent s buf) → HeldBy s st w buf m b
+held-below : (k : Kind) (s : Bool) (st : InStage) (w : ℕ) (buf m b : List ℕ) (v : Bool) → st .offset + st .remain ≤ length (lent s buf) → HeldBy k s st w buf m b v
     → (take (st .offset) b ≡ take (st .offset) buf) × (length b ≡ length buf)
-held-below true st w buf m b h e = (ap (take (st .offset)) (e .1), ap length (e .1))
-held-below false st w buf m b h e =
+held-below k true st w buf m b v h e = (ap (take (st .offset)) (e .1), ap length (e .1))
+held-below k false st w buf m b v h e =
     let z = one-below w (inReceived st) (st .inflight) buf m h in
     (ap (take (st .offset)) (e .1) ∙ z .0, ap length (e .1) ∙ z .1)
 
@@ -409,12 +423,12 @@ below-nine x st buf y =
     let r : Run = record { request = x; stage = inStage st } in
     by-busy (λ (o : Outcome). stepReply (o .answer) ≡ number 9 → (take (st .offset) (o .buffer) ≡ take (st .offset) buf) × (length (o .buffer) ≡ length buf)) true r (y .sample) buf (y .memory) (y .log)
     (not-nine 15 refl) (not-nine 16 refl)
-    (λ v l g e. held-below (st .status) st (y .sample .buffers) buf (y .memory) (acts x (inStage st) (y .sample) buf (y .memory) .buffer)
+    (λ v l g e. let o = acts x (inStage st) (y .sample) buf (y .memory) in held-below (x .kind) (st .status) st (y .sample .buffers) buf (y .memory) (o .buffer) (o .moved)
     (sound-within x (inStage st) buf (may-parts true r v .1) (sym l)) (acts-nine x (inStage st) (y .sample) buf (y .memory) e))
 
 -- ---- exactly
 
-same-long : (w : ℕ) (s : Bool) → lengthIn w s ≡ readBufferControl w s .LENGTH
+pub same-long : (w : ℕ) (s : Bool) → lengthIn w s ≡ readBufferControl w s .LENGTH
 same-long w false = refl
 same-long w true = refl
 
@@ -474,20 +488,20 @@ module _ (y : StepCall) (fits : length (y .memory) ≡ 4096) (st : InStage) (buf
       go false e (inr f) = no (sym (f .1) ∙ ap (λ (t : Bool). inRetireIf t n (inReceived st) (st .inflight) buf (y .memory) .long) e)
       go true e z = taken h (ltb 64 n) refl
 
-  held-kept : (s : Bool) (b : List ℕ) → st .offset + st .remain ≤ length (lent s buf) → HeldBy s st w buf (y .memory) b → b ≡ bufferAtNine st y buf
-  held-kept true b h e = e .1 ∙ sym (by (ltb 64 (readBufferControl w (st .retire) .LENGTH)))
+  held-kept : (k : Kind) (s : Bool) (b : List ℕ) (v : Bool) → st .offset + st .remain ≤ length (lent s buf) → HeldBy k s st w buf (y .memory) b v → b ≡ bufferAtNine st y buf
+  held-kept k true b v h e = e .1 ∙ sym (by (ltb 64 (readBufferControl w (st .retire) .LENGTH)))
     where
       by : (l : Bool) → bufferBy l st y buf ≡ buf
       by true = refl
       by false = no-room (st .offset) (st .remain) (packetAt y (st .retire)) buf (omega arith)
-  held-kept false b h e = e .1 ∙ first-stored h (e .0) ∙ ap (λ (k : ℕ). bufferBy (ltb 64 k) st y buf) (same-long w (st .retire))
+  held-kept k false b v h e = e .1 ∙ first-stored h (e .0) ∙ ap (λ (k : ℕ). bufferBy (ltb 64 k) st y buf) (same-long w (st .retire))
 
 long-nine : (x : Request) (st : InStage) (buf : List ℕ) (y : StepCall) → st .offset + st .remain ≤ 0xFFFF
     → let o = stepIn (inStageAt x st buf) y in stepReply (o .answer) ≡ number 9 → o .buffer ≡ bufferAtNine st y buf
 long-nine x st buf y few =
     let r : Run = record { request = x; stage = inStage st } in
     by-busy (λ (o : Outcome). stepReply (o .answer) ≡ number 9 → o .buffer ≡ bufferAtNine st y buf) true r (y .sample) buf (y .memory) (y .log) (not-nine 15 refl) (not-nine 16 refl)
-    (λ v l g e. held-kept y (lent-sizes (y .memory) (y .log) g .0) st buf few (st .status) (acts x (inStage st) (y .sample) buf (y .memory) .buffer)
+    (λ v l g e. let o = acts x (inStage st) (y .sample) buf (y .memory) in held-kept y (lent-sizes (y .memory) (y .log) g .0) st buf few (x .kind) (st .status) (o .buffer) (o .moved)
     (sound-within x (inStage st) buf (may-parts true r v .1) (sym l)) (acts-nine x (inStage st) (y .sample) buf (y .memory) e))
 
 -- ---- from a bulk IN begin on

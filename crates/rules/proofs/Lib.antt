@@ -26,4 +26,5 @@ pub mod Enables
 pub mod PipeStates
 pub mod Stores
 pub mod KeepsBytes
+pub mod Toggles
 pub mod Example

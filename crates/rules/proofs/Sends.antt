@@ -94,11 +94,11 @@ arm-go w c k buf m a q e =
     let f = ap (λ (v : Bool). outArmIf v c k buf m) q ∙ ap (λ (x : OptionArm). outArmed x (outNext c .rest) k (c .offset) buf m) e in
     (ap (λ (g : OutArming). g .packets) f, ap (λ (g : OutArming). g .inflight) f)
 
-same-full : (w : ℕ) (s : Bool) → full w s ≡ readBufferControl w s .FULL
+pub same-full : (w : ℕ) (s : Bool) → full w s ≡ readBufferControl w s .FULL
 same-full w false = refl
 same-full w true = refl
 
-same-flight : (a r k : ℕ) → a ≡ r + k → ltb 0 k ≡ ltb r a
+pub same-flight : (a r k : ℕ) → a ≡ r + k → ltb 0 k ≡ ltb r a
 same-flight a r k e = byCases (ltb 0 k)
     (λ (q : ltb 0 k ≡ true). let z = ltb-true 0 k q in q ∙ sym (lt-ltb r a (omega arith)))
     (λ (q : ltb 0 k ≡ false). let z = ltb-false 0 k q in q ∙ sym (le-ltb r a (omega arith)))
@@ -108,7 +108,7 @@ same-two a r k e = byCases (ltb k 2)
     (λ (h : ltb k 2 ≡ true). let z = ltb-true k 2 h in h ∙ sym (lt-ltb a (r + 2) (omega arith)))
     (λ (h : ltb k 2 ≡ false). let z = ltb-false k 2 h in h ∙ sym (le-ltb a (r + 2) (omega arith)))
 
-flips-slot : (b : Bool) (k : ℕ) → flipped b (slotOf k) ≡ flipTimes b k
+pub flips-slot : (b : Bool) (k : ℕ) → flipped b (slotOf k) ≡ flipTimes b k
 unfolding flipTimes
 flips-slot b zero = ap (flipped b) slot-zero
 flips-slot b (suc k) = ap (flipped b) (slot-suc k) ∙ by (slotOf k) ∙ ap not (flips-slot b k)
@@ -124,13 +124,13 @@ flips-slot b (suc k) = ap (flipped b) (slot-suc k) ∙ by (slotOf k) ∙ ap not 
 -- ---- the driver's counters, with so many armed and retired
 
 module _ (packets : ℕ) (b : Bool) (p : ℕ) (first : List ℕ) where
-  record Stands (s : SentTally) (c : OutCounters) (parity : Bool) (k : ℕ) : Type 0 where
+  pub record Stands (s : SentTally) (c : OutCounters) (parity : Bool) (k : ℕ) : Type 0 where
     left : List (Packet (List ℕ))
     slot : c .slot ≡ slotOf (s .armed)
     hands : OutLeft first c left
     many : s .armed + length left ≡ packets
     flight : s .armed ≡ s .retired + k
-    turn : parity ≡ slotOf (s .retired)
+    pub turn : parity ≡ slotOf (s .retired)
     pid : c .pid ≡ b
     size : c .size ≡ p
 
@@ -241,12 +241,12 @@ module _ (a e p : ℕ) (k : TransferType) (b : Bool) (first : List ℕ) where
   abbrev busy : OutStage → Transfer
   busy st = Busy (record { request = bulkX; stage = outStage st })
 
-  record At (st : OutStage) (s : SentTally) : Type 0 where
-    data-stage : st .status ≡ false
-    stands : Stands many b p first s (outPackets bulkX st) (st .retire) (st .inflight)
+  pub record At (st : OutStage) (s : SentTally) : Type 0 where
+    pub data-stage : st .status ≡ false
+    pub stands : Stands many b p first s (outPackets bulkX st) (st .retire) (st .inflight)
 
   -- What a step comes to: whether it ends the stage, and the tally after it.
-  data Comes (ends : Bool) (s : SentTally) (o : Outcome) : Type 0 where
+  pub data Comes (ends : Bool) (s : SentTally) (o : Outcome) : Type 0 where
     fails : ends ≡ false → o .next ≡ Idle → not-done (o .answer) → Comes ends s o
     goes : ends ≡ false → (st : OutStage) → o .next ≡ busy st → At st s → not-done (o .answer) → Comes ends s o
     finishes : ends ≡ true → o .next ≡ Idle → o .answer ≡ Done (length first) → o .toggle ≡ flipTimes b (s .retired) → Comes ends s o
@@ -292,7 +292,7 @@ module _ (a e p : ℕ) (k : TransferType) (b : Bool) (first : List ℕ) where
     abbrev tells : Bool → SentTally
     tells v = sentBy v (quiet (y .sample)) (complete (y .sample)) many (y .sample .buffers) s
 
-    polled-comes : Comes (endsStage (y .sample)) (tells true) (polls (classify (y .sample .status) (y .sample .intr)) bulkX (outStage st) (y .sample .buffers) (z .bytes) (y .memory))
+    pub polled-comes : Comes (endsStage (y .sample)) (tells true) (polls (classify (y .sample .status) (y .sample .intr)) bulkX (outStage st) (y .sample .buffers) (z .bytes) (y .memory))
     polled-comes =
         let w = y .sample .buffers in
         by-poll (y .sample) (λ (u : Poll) (q c : Bool). Comes (not q && c) (sentBy true q c many w s) (polls u bulkX (outStage st) w (z .bytes) (y .memory)))
@@ -373,7 +373,7 @@ module _ (t : Transfer) (a e p : ℕ) (k : TransferType) (b : Bool) (first m log
   abbrev start : SentTally
   start = record { armed = min (length (outCut k p b first)) 2; retired = 0 }
 
-  starts : 1 ≤ p → p ≤ 64 → length first ≤ 0xFFFF → At a e p k b first (startOut (targetOf (bulkRequest Out a e p b (length first))) k false 0 (length first) first m .stage) start
+  pub starts : 1 ≤ p → p ≤ 64 → length first ≤ 0xFFFF → At a e p k b first (startOut (targetOf (bulkRequest Out a e p b (length first))) k false 0 (length first) first m .stage) start
   unfolding startOut
   starts low high few =
       let c = outStart k p b (length first) in

@@ -19,6 +19,8 @@ use Rattle.transfers.specs.declared.answers.OptionSetup.the-variants.{None as n
 use Rattle.transfers.specs.declared.answers.OptionOut.the-variants.{None as noOut}
 use Rattle.transfers.specs.declared.sample.Sample.{Sample}
 use Rattle.transfers.specs.declared.pipes.PipeSample.{PipeSample}
+use Rattle.transfers.specs.declared.driver.DeskRule.{DeskRule}
+use Rattle.transfers.specs.declared.driver.DeskRule.the-variants.{One, Two}
 use Rattle.transfers.specs.declared.driver.Driver.{Driver}
 use Rattle.transfers.specs.declared.driver.Transfer.{Transfer}
 use Rattle.transfers.specs.declared.driver.Transfer.the-variants.{Idle, Busy}
@@ -38,27 +40,32 @@ use Rattle.rules.specs.Received.{quiet, endsStage}
 
 -- ---- the parts of the state that a call has nothing to do with
 
--- The control pipe's calls leave pipes and last status, the pipes' calls transfer, count and last status, detection all but the last status. The interrupt routine has no state.
+-- The control pipe's calls leave pipes and last status, the pipes' calls transfer, count and last status, detection all but the last status; every call the desk rule. The interrupt routine has no state.
 pub record LeavesAlone : Type 0 where
-  pub begin : (d : Driver) (o : Beginning) → (begun d o .next .pipes ≡ d .pipes) × (begun d o .next .last ≡ d .last)
-  pub step : (d : Driver) (o : Outcome) → (stepped d o .next .pipes ≡ d .pipes) × (stepped d o .next .last ≡ d .last)
-  pub cancel : (d : Driver) (o : Cancelling) → (dropped d o .next .pipes ≡ d .pipes) × (dropped d o .next .last ≡ d .last)
+  pub begin : (d : Driver) (o : Beginning) → (begun d o .next .pipes ≡ d .pipes) × (begun d o .next .last ≡ d .last) × (begun d o .next .rule ≡ d .rule)
+  pub step : (d : Driver) (o : Outcome) → (stepped d o .next .pipes ≡ d .pipes) × (stepped d o .next .last ≡ d .last) × (stepped d o .next .rule ≡ d .rule)
+  pub cancel : (d : Driver) (o : Cancelling) → (dropped d o .next .pipes ≡ d .pipes) × (dropped d o .next .last ≡ d .last) × (dropped d o .next .rule ≡ d .rule)
   pub opens : (d : Driver) (address : ℕ) (extras : TransferExtras) (endpoint size interval : ℕ) (log : List ℕ)
-      → let e = opening d address extras endpoint size interval log .next in (e .transfer ≡ d .transfer) × (e .entries ≡ d .entries) × (e .last ≡ d .last)
+      → let e = opening d address extras endpoint size interval log .next in (e .transfer ≡ d .transfer) × (e .entries ≡ d .entries) × (e .last ≡ d .last) × (e .rule ≡ d .rule)
   pub close : (d : Driver) (n : PipeNumber)
-      → let e = closing d n .next in (e .transfer ≡ d .transfer) × (e .entries ≡ d .entries) × (e .last ≡ d .last)
+      → let e = closing d n .next in (e .transfer ≡ d .transfer) × (e .entries ≡ d .entries) × (e .last ≡ d .last) × (e .rule ≡ d .rule)
   pub poll : (d : Driver) (n : PipeNumber) (s : PipeSample) (pm log : List ℕ)
-      → let e = polling d n s pm log .next in (e .transfer ≡ d .transfer) × (e .entries ≡ d .entries) × (e .last ≡ d .last)
+      → let e = polling d n s pm log .next in (e .transfer ≡ d .transfer) × (e .entries ≡ d .entries) × (e .last ≡ d .last) × (e .rule ≡ d .rule)
   pub detect : (d : Driver) (sie : ℕ) (log : List ℕ)
-      → let e = detecting d sie log .next in (e .transfer ≡ d .transfer) × (e .entries ≡ d .entries) × (e .pipes ≡ d .pipes)
+      → let e = detecting d sie log .next in (e .transfer ≡ d .transfer) × (e .entries ≡ d .entries) × (e .pipes ≡ d .pipes) × (e .rule ≡ d .rule)
+
+-- Of a call's two toggles the first goes out under desk rule 1, the second under rule 2.
+abbrev pub ByRule : DeskRule → Bool → Bool → Bool → Type 0
+ByRule One t v out = out ≡ t
+ByRule Two t v out = out ≡ v
 
 -- What the driver's begin, step and cancel hand back is what the transfer's do; "The answer counts the writes".
 pub record HandsOn : Type 0 where
   pub begin : (d : Driver) (o : Beginning)
       → let r = begun d o in (r .next .transfer ≡ o .next) × (r .answer ≡ o .answer) × (r .armed ≡ o .armed) × (r .writes ≡ length (o .writes))
   pub step : (d : Driver) (o : Outcome)
-      → let r = stepped d o in (r .next .transfer ≡ o .next) × (r .answer ≡ o .answer) × (r .toggle ≡ o .toggle) × (r .armed ≡ o .armed) × (r .writes ≡ length (o .writes))
-  pub cancel : (d : Driver) (o : Cancelling) → let r = dropped d o in (r .next .transfer ≡ o .next) × (r .answer ≡ o .answer) × (r .toggle ≡ o .toggle)
+      → let r = stepped d o in (r .next .transfer ≡ o .next) × (r .answer ≡ o .answer) × ByRule (d .rule) (o .toggle) (o .moved) (r .toggle) × (r .armed ≡ o .armed) × (r .writes ≡ length (o .writes))
+  pub cancel : (d : Driver) (o : Cancelling) → let r = dropped d o in (r .next .transfer ≡ o .next) × (r .answer ≡ o .answer) × ByRule (d .rule) (o .toggle) (o .moved) (r .toggle)
 
 -- ---- "A call refused before it acts changes nothing"
 

@@ -14,5 +14,6 @@ pub mod Enables
 pub mod PipeStates
 pub mod Stores
 pub mod KeepsBytes
+pub mod Toggles
 -- A reading aid: one transfer, computed.
 pub mod Example

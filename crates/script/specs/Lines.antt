@@ -11,7 +11,7 @@ use Rattle.script.specs.declared.command.Control.{Control}
 use Rattle.script.specs.declared.command.Bulk.{Bulk}
 use Rattle.script.specs.declared.command.Stepping.{Stepping}
 use Rattle.script.specs.declared.command.Command.{Command}
-use Rattle.script.specs.declared.command.Command.the-variants.{Skipped, Wrong, Fresh, Lend, Memory, ControlIn, ControlOut, ControlNone, BulkIn, BulkOut, Buffer, StepIn, StepOut, Cancel, Open, Close, Poll, Irq, Detect, Record}
+use Rattle.script.specs.declared.command.Command.the-variants.{Skipped, Wrong, Fresh, Rule, Lend, Memory, ControlIn, ControlOut, ControlNone, BulkIn, BulkOut, Buffer, StepIn, StepOut, Cancel, Open, Close, Poll, Irq, Detect, Record}
 use Rattle.script.specs.declared.bytes.OptionCount.{OptionCount}
 use Rattle.script.specs.declared.bytes.OptionCount.the-variants.{Some as Count, None as NoCount}
 use Rattle.script.specs.declared.typed.OptionByte.{OptionByte}
@@ -84,6 +84,14 @@ pub record Reading : Type 0 where
 -- A line's command beside the lent bytes.
 abbrev pub reading : Command → List ℕ → Reading
 reading c out = record { command = c; stored = out }
+
+-- `rule 1` or `rule 2`.
+unfoldable pub ruleOf : List ℕ → Command
+ruleOf line =
+    cond (eqb (fieldsOf line) 2)
+    (withByte (byteAt line 1) Wrong λ rule.
+    cond (eqb rule 0) Wrong (cond (leb rule 2) (Rule rule) Wrong))
+    Wrong
 
 -- `lend PMLEN LOGLEN`.
 unfoldable pub lendOf : List ℕ → Command
@@ -281,6 +289,10 @@ word-step-in = 115 ∷ 116 ∷ 101 ∷ 112 ∷ 45 ∷ 105 ∷ 110 ∷ []
 abbrev pub word-step-out : List ℕ
 word-step-out = 115 ∷ 116 ∷ 101 ∷ 112 ∷ 45 ∷ 111 ∷ 117 ∷ 116 ∷ []
 
+-- `rule`.
+abbrev pub word-rule : List ℕ
+word-rule = 114 ∷ 117 ∷ 108 ∷ 101 ∷ []
+
 -- `open`.
 abbrev pub word-open : List ℕ
 word-open = 111 ∷ 112 ∷ 101 ∷ 110 ∷ []
@@ -330,7 +342,8 @@ callOf word line out =
     (cond (sameText word word-step-out) (reading (stepOutOf line) out)
     (cond (sameText word word-buffer) (bufferOf line out)
     (cond (sameText word word-pm) (memoryOf line out)
-    (cond (sameText word word-lend) (reading (lendOf line) out) (pipeOf word line out)))))
+    (cond (sameText word word-lend) (reading (lendOf line) out)
+    (cond (sameText word word-rule) (reading (ruleOf line) out) (pipeOf word line out))))))
 
 -- "Empty lines and lines that begin with `#` are skipped."
 unfoldable pub lineOf : List ℕ → List ℕ → Reading

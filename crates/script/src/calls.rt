@@ -19,11 +19,32 @@ use crate::typed::half_at;
 use crate::typed::length_at;
 use crate::typed::word_at;
 ghost use mathlib.Core.Path.{_≡_};
-ghost use Rattle.script.specs.Lines.{lendOf, stepOf, stepInOf, stepOutOf, openOf, closeOf, pollOf, irqOf, detectOf, storedCommand, memoryOf, bufferOf};
+ghost use Rattle.script.specs.Lines.{ruleOf, lendOf, stepOf, stepInOf, stepOutOf, openOf, closeOf, pollOf, irqOf, detectOf, storedCommand, memoryOf, bufferOf};
 
 pub enum OptionStep {
     Some(Stepping),
     None,
+}
+
+// `rule 1` or `rule 2`.
+pub(crate) fn read_rule(line: &[u8]) -> Command
+    ensures { λ r. ⌜ r ≡ ruleOf (now (line .entry)) ⌝ }
+{
+    if fields(line) != 2 {
+        return Command::Wrong;
+    }
+    let f1 = byte_at(line, 1);
+    let OptionByte::Some(rule) = f1 else {
+        return Command::Wrong;
+    };
+    if rule == 0 {
+        return Command::Wrong;
+    }
+    if rule <= 2 {
+        Command::Rule(rule)
+    } else {
+        Command::Wrong
+    }
 }
 
 // `lend PMLEN LOGLEN`.

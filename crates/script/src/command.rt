@@ -68,6 +68,7 @@ pub enum Command {
     Skipped,
     Wrong,
     Fresh,
+    Rule(u8),
     Lend(Lent),
     Memory(Stored),
     ControlIn(Control),

@@ -12,6 +12,7 @@ use crate::calls::read_lend;
 use crate::calls::read_memory;
 use crate::calls::read_open;
 use crate::calls::read_poll;
+use crate::calls::read_rule;
 use crate::calls::read_step_in;
 use crate::calls::read_step_out;
 use crate::command::Command;
@@ -94,6 +95,9 @@ fn read_call(word: &[u8], line: &[u8], out: &mut [u8; 131072]) -> Command
     }
     if same(word, b"lend") {
         return read_lend(line);
+    }
+    if same(word, b"rule") {
+        return read_rule(line);
     }
     read_pipe(word, line, out)
 }

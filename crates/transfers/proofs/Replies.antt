@@ -42,9 +42,9 @@ use Rattle.transfers.specs.Sample.{full, lengthIn, errors, firstOf, clas
 use Rattle.transfers.specs.Memory.{lentFits, slotAddress}
 use Rattle.transfers.specs.Retiring.{InRetiring, inRetireIf, inRetireOne}
 use Rattle.transfers.specs.State.{addressGood, endpointGood, sizeGood, isIn, fills, same, phaseHas, kindHas, stageFits, served, controlOf}
-use Rattle.transfers.specs.Outcome.{Outcome, toggleIn}
+use Rattle.transfers.specs.Outcome.{Outcome, toggleIn, toggleOut}
 use Rattle.transfers.specs.Step.{setupDone, setupStep, inReceived, statusCount, inDone, inSecondDone, inFirstDone, inComplete, inSecondMoved, inFirstMoved, inRearm, inMove, inStep, outRetireTwo, outControlDone, outDone, outComplete, outMove, outStep, lent, keeping, stageStep, polls, acts}
-use Rattle.transfers.specs.Calls.{stepIf, mayStep, stepLent, stepOf, cancelIf, cancelOf, Beginning, fieldsRefusal, beginRefusal, beginOr, isIdle, beginsControl, beginControlOf, bulkRequest, beginsBulkIn, beginBulkInOf, beginsBulkOut, beginBulkOutOf}
+use Rattle.transfers.specs.Calls.{stepIf, mayStep, stepLent, stepOf, cancelIf, stageParity, cancelOf, Beginning, fieldsRefusal, beginRefusal, beginOr, isIdle, beginsControl, beginControlOf, bulkRequest, beginsBulkIn, beginBulkInOf, beginsBulkOut, beginBulkOutOf}
 use Rattle.transfers.specs.Rows.{unless, controlRow, bulkRow, setupRow, phaseCount, bulkCount, endRow, slotFull, slotLength, tooLong, completeRow, goesOnRow, errorRow, actsRow, underWayRow, stepRow, cancelRow}
 use Rattle.transfers.proofs.Readiness.{both, may-parts}
 
@@ -309,7 +309,7 @@ unfolding cancelOf
 cancel-row Idle = refl
 cancel-row (Busy r) = go (mayStep true r) (mayStep false r)
   where
-    go : (a b : Bool) → cancelReply (cancelIf (cond a true b) (Busy r) (toggleIn (r .request .kind)) .answer) ≡ unless (a || b) 16 (result tt)
+    go : (a b : Bool) → cancelReply (cancelIf (cond a true b) (Busy r) (toggleIn (r .request .kind)) (toggleOut (r .request .kind) (stageParity (r .stage))) .answer) ≡ unless (a || b) 16 (result tt)
     go true b = refl
     go false true = refl
     go false false = refl

@@ -1,6 +1,7 @@
 -- Outcomes one after another: writes in front of an outcome. Assumes nothing.
 use mathlib.Core.Path.{_≡_, refl, ap, ap₂, subst, _∙_}
 use mathlib.Core.List.{List}
+use mathlib.Core.Bool.{Bool}
 use Prim.Native.Nat.{ℕ, _+_}
 use native.Mathlib.Nat.{zero-add}
 use lib.ListN.{length}
@@ -12,7 +13,7 @@ use Rattle.transfers.specs.Log.{Write, Wrote}
 use Rattle.transfers.specs.Outcome.{Outcome, after}
 use Rattle.transfers.specs.Acts.{told, Tells, Moves, Acts}
 use Rattle.transfers.specs.Entries.{entriesStepped, failedStep}
-use Rattle.transfers.specs.Driver.{withTransfer, stepped}
+use Rattle.transfers.specs.Driver.{withTransfer, handedOut, stepped}
 use Rattle.transfers.proofs.Logs.{then}
 
 -- A result that tells an outcome, with its writes put.
@@ -39,13 +40,14 @@ pub moves-at : {o o′ : Outcome} {l l′ m : List ℕ} {k : ℕ} {r : Progress}
 moves-at {l = l} {l′ = l′} {m = m} {k = k} {r = r} e t = subst (λ (o : Outcome). Moves o l k r m l′) e t
 
 -- A step's result, lifted to the driver with the count of entries.
-pub lifted : (d : Driver) (o : Outcome) (p : Progress) (next : Driver) (n : ℕ) (x : OptionEntries) → p ≡ told o (0 + length (o .writes)) → next ≡ withTransfer d (p .next) n
-    → n ≡ entriesStepped (p .answer) (d .entries) (p .armed) → x ≡ failedStep (p .answer) (d .entries)
-    → _≡_ {A = Stepped} (record { next = next; answer = p .answer; toggle = p .toggle; armed = p .armed; failed = x; writes = p .writes }) (stepped d o)
-lifted d o p next n x e h k f =
-    ap₂ (λ (u : Driver) (v : OptionEntries). record { next = u; answer = p .answer; toggle = p .toggle; armed = p .armed; failed = v; writes = p .writes }) (h ∙ ap (withTransfer d (p .next)) k) f
+pub lifted : (d : Driver) (o : Outcome) (p : Progress) (next : Driver) (b : Bool) (n : ℕ) (x : OptionEntries) → p ≡ told o (0 + length (o .writes)) → next ≡ withTransfer d (p .next) n
+    → b ≡ handedOut (d .rule) (p .toggle) (p .moved) → n ≡ entriesStepped (p .answer) (d .entries) (p .armed) → x ≡ failedStep (p .answer) (d .entries)
+    → _≡_ {A = Stepped} (record { next = next; answer = p .answer; toggle = b; armed = p .armed; failed = x; writes = p .writes }) (stepped d o)
+lifted d o p next b n x e h t k f =
+    ap₂ (λ (u : Driver) (v : OptionEntries). record { next = u; answer = p .answer; toggle = b; armed = p .armed; failed = v; writes = p .writes }) (h ∙ ap (withTransfer d (p .next)) k) f
+    ∙ ap (λ (c : Bool). record { next = withTransfer d (p .next) (entriesStepped (p .answer) (d .entries) (p .armed)); answer = p .answer; toggle = c; armed = p .armed; failed = failedStep (p .answer) (d .entries); writes = p .writes }) t
     ∙ ap (lift d) e
     ∙ ap (λ (w : ℕ). lift d (told o w)) (zero-add (length (o .writes)))
   where
     lift : Driver → Progress → Stepped
-    lift d q = record { next = withTransfer d (q .next) (entriesStepped (q .answer) (d .entries) (q .armed)); answer = q .answer; toggle = q .toggle; armed = q .armed; failed = failedStep (q .answer) (d .entries); writes = q .writes }
+    lift d q = record { next = withTransfer d (q .next) (entriesStepped (q .answer) (d .entries) (q .armed)); answer = q .answer; toggle = handedOut (d .rule) (q .toggle) (q .moved); armed = q .armed; failed = failedStep (q .answer) (d .entries); writes = q .writes }

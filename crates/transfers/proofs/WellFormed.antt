@@ -274,14 +274,14 @@ pub step-well : (b : Bool) (t : Transfer) (s : Sample) (buf m log : List ℕ) �
 unfolding stepOf
 step-well b t s buf m log h = step-lent-well (lentFits m log) b t s buf m h
 
-cancel-if-well : (b : Bool) (t : Transfer) (c : Bool) → wellFormed t ≡ true → wellFormed (cancelIf b t c .next) ≡ true
-cancel-if-well true t c h = refl
-cancel-if-well false t c h = h
+cancel-if-well : (b : Bool) (t : Transfer) (c v : Bool) → wellFormed t ≡ true → wellFormed (cancelIf b t c v .next) ≡ true
+cancel-if-well true t c v h = refl
+cancel-if-well false t c v h = h
 
 pub cancel-well : (t : Transfer) → wellFormed t ≡ true → wellFormed (cancelOf t .next) ≡ true
 unfolding cancelOf
 cancel-well Idle h = refl
-cancel-well (Busy r) h = cancel-if-well (eitherServes r) (Busy r) _ h
+cancel-well (Busy r) h = cancel-if-well (eitherServes r) (Busy r) _ _ h
 
 begin-or-well : (r : OptionRefusal) (t : Transfer) (m : List ℕ) (b : Beginning) → wellFormed t ≡ true → (r ≡ accepted → wellFormed (b .next) ≡ true) → wellFormed (beginOr r t m b .next) ≡ true
 begin-or-well (refused e) t m b h f = h

@@ -9,7 +9,7 @@ use Rattle.transfers.specs.Outcome.{Outcome}
 
 -- An outcome told in a result, with the count of writes.
 abbrev pub told : Outcome → ℕ → Progress
-told o n = record { next = o .next; answer = o .answer; toggle = o .toggle; armed = o .armed; writes = n }
+told o n = record { next = o .next; answer = o .answer; toggle = o .toggle; moved = o .moved; armed = o .armed; writes = n }
 
 -- A function without packet memory and buffer: its result and its log.
 pub record Tells (o : Outcome) (l : List ℕ) (k : ℕ) (r : Progress) (l′ : List ℕ) : Type 0 where

@@ -14,7 +14,7 @@ use Rattle.transfers.specs.Calls.{Cancelling, Beginning as BeginningAs}
 
 -- What the transfer's cancel hands back.
 abbrev pub cancels : Cancelling → Cancelled
-cancels o = record { next = o .next; answer = o .answer; toggle = o .toggle }
+cancels o = record { next = o .next; answer = o .answer; toggle = o .toggle; moved = o .moved }
 
 -- What a refused begin hands back.
 abbrev pub refusing : Transfer → Refusal → Beginning

@@ -29,13 +29,14 @@ use Rattle.transfers.specs.declared.driver.Transfer.the-variants.{Idle, 
 use Rattle.transfers.specs.declared.driver.Run.{Run}
 use Rattle.transfers.specs.declared.driver.Request.{Request}
 use Rattle.transfers.specs.declared.driver.Kind.the-variants.{Control as control, Bulk as bulk}
+use Rattle.transfers.specs.declared.driver.Stage.{Stage}
 use Rattle.transfers.specs.declared.driver.Stage.the-variants.{Setup as setupStage, In as inStage, Out as outStage}
 use Rattle.transfers.specs.Log.{Write}
 use Rattle.transfers.specs.Memory.{lentFits}
 use Rattle.transfers.specs.Answers.{nothingArmed, outsArmed}
 use Rattle.transfers.specs.Writes.{setupWords, setupStart}
 use Rattle.transfers.specs.State.{targetOf, served, addressGood, endpointGood, sizeGood, sound}
-use Rattle.transfers.specs.Outcome.{Outcome, toggleIn, startIn, startOut}
+use Rattle.transfers.specs.Outcome.{Outcome, toggleIn, toggleOut, startIn, startOut}
 use Rattle.transfers.specs.Step.{acts}
 
 -- ---- step: `filling` is the call that lends a buffer to fill (`step_in`), else the one that lends bytes to send (`step_out`)
@@ -47,7 +48,7 @@ heldToggle (Busy r) = toggleIn (r .request .kind)
 
 -- "Every other number leaves state, packet memory, log, record and buffer untouched."
 abbrev pub refuses : Transfer → Refusal → List ℕ → List ℕ → Outcome
-refuses t e m buf = record { next = t; answer = Refused e; toggle = heldToggle t; armed = nothingArmed; writes = []; memory = m; buffer = buf }
+refuses t e m buf = record { next = t; answer = Refused e; toggle = heldToggle t; moved = heldToggle t; armed = nothingArmed; writes = []; memory = m; buffer = buf }
 
 -- "16 ..; then, step only, 15 buffer length not that of begin"
 abbrev pub stepIf : Bool → Bool → Run → Sample → List ℕ → List ℕ → Outcome
@@ -71,16 +72,23 @@ stepOf filling t s buf m log = stepLent (lentFits m log) filling t s buf m
 
 -- ---- cancel: "Dropping the future becomes a cancel that frees the control pipe and writes no register."
 
--- What a cancel does: the next state, the answer and the toggle.
+-- What a cancel does: the next state, the answer, and the toggle that desk rule 1 hands out and the one that rule 2 does.
 pub record Cancelling : Type 0 where
   pub next : Transfer
   pub answer : CancelAnswer
   pub toggle : Bool
+  pub moved : Bool
 
 -- 16 where no step serves the state, which then stays.
-abbrev pub cancelIf : Bool → Transfer → Bool → Cancelling
-cancelIf false t b = record { next = t; answer = refusedCancel State; toggle = b }
-cancelIf true t b = record { next = Idle; answer = Cancelled; toggle = b }
+abbrev pub cancelIf : Bool → Transfer → Bool → Bool → Cancelling
+cancelIf false t b v = record { next = t; answer = refusedCancel State; toggle = b; moved = b }
+cancelIf true t b v = record { next = Idle; answer = Cancelled; toggle = b; moved = v }
+
+-- The parity of the packets that a stage has retired.
+abbrev pub stageParity : Stage → Bool
+stageParity setupStage = false
+stageParity (inStage st) = st .retire
+stageParity (outStage st) = st .retire
 
 -- One of the two steps serves it.
 abbrev pub eitherServes : Run → Bool
@@ -88,8 +96,8 @@ eitherServes r = cond (mayStep true r) true (mayStep false r)
 
 -- A cancel, on any state.
 unfoldable pub cancelOf : Transfer → Cancelling
-cancelOf Idle = cancelIf false Idle false
-cancelOf (Busy r) = cancelIf (eitherServes r) (Busy r) (toggleIn (r .request .kind))
+cancelOf Idle = cancelIf false Idle false false
+cancelOf (Busy r) = cancelIf (eitherServes r) (Busy r) (toggleIn (r .request .kind)) (toggleOut (r .request .kind) (stageParity (r .stage)))
 
 -- A state that the calls leave: nothing under way, or a transfer that one of them serves.
 abbrev pub wellFormed : Transfer → Bool

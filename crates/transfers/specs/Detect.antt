@@ -61,7 +61,7 @@ detectingStatus last sie log = detectingIf (logFits log) (sameStatus (statusOf s
 
 -- The same for the driver.
 abbrev pub withLast : Driver → Detecting DeviceStatus → Detecting Driver
-withLast d e = record { next = record { transfer = d .transfer; entries = d .entries; pipes = d .pipes; last = e .next }; answer = e .answer; writes = e .writes }
+withLast d e = record { next = record { transfer = d .transfer; entries = d .entries; pipes = d .pipes; last = e .next; rule = d .rule }; answer = e .answer; writes = e .writes }
 
 -- Detection, on any driver.
 abbrev pub detecting : Driver → ℕ → List ℕ → Detecting Driver

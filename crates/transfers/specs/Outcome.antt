@@ -1,4 +1,4 @@
--- What a step or a begin does: the next state, the answer, the toggle handed out, what was armed, the writes, packet memory and buffer as it leaves them.
+-- What a step or a begin does: the next state, the answer, the toggle handed out under either desk rule, what was armed, the writes, packet memory and buffer as it leaves them.
 use mathlib.Core.Bool.{Bool, true, false, not}
 use mathlib.Core.List.{List, [], _++_}
 use Prim.Native.Nat.{ℕ}
@@ -28,11 +28,12 @@ use Rattle.transfers.specs.Writes.{headWrites, enableWrites, goWrites}
 use Rattle.transfers.specs.Arming.{inArmTwo, outArmTwo}
 use Rattle.transfers.specs.State.{endpointOf, targetOf}
 
--- What a step does: the next state, the answer, the toggle, what was armed, the writes, packet memory and buffer.
+-- What a step does: the next state, the answer, the toggle that desk rule 1 hands out and the one that rule 2 does, what was armed, the writes, packet memory and buffer.
 pub record Outcome : Type 0 where
   pub next : Transfer
   pub answer : StepAnswer
   pub toggle : Bool
+  pub moved : Bool
   pub armed : Armed
   pub writes : List Write
   pub memory : List ℕ
@@ -40,35 +41,35 @@ pub record Outcome : Type 0 where
 
 -- Writes that come before.
 abbrev pub after : List Write → Outcome → Outcome
-after ws o = record { next = o .next; answer = o .answer; toggle = o .toggle; armed = o .armed; writes = ws ++ o .writes; memory = o .memory; buffer = o .buffer }
+after ws o = record { next = o .next; answer = o .answer; toggle = o .toggle; moved = o .moved; armed = o .armed; writes = ws ++ o .writes; memory = o .memory; buffer = o .buffer }
 
 -- The toggle that came in with a bulk begin; a control transfer has none.
 abbrev pub toggleIn : Kind → Bool
 toggleIn (control c) = false
 toggleIn (bulk b) = b .toggle
 
--- "The bulk toggle flips once per retired packet and only when the transfer ends in done."
+-- "The bulk toggle flips once per retired packet": by the parity of their number.
 abbrev pub flipped : Bool → Bool → Bool
 flipped t false = t
 flipped t true = not t
 
--- The toggle that goes out with done.
+-- The toggle of a bulk transfer after the packets retired: it goes out with done, and under rule 2 with a failure or a cancel.
 abbrev pub toggleOut : Kind → Bool → Bool
 toggleOut (control c) parity = false
 toggleOut (bulk b) parity = flipped (b .toggle) parity
 
 -- The transfer ends, and frees the control pipe.
-abbrev pub ended : StepAnswer → Bool → List ℕ → List ℕ → Outcome
-ended a t m buf = record { next = Idle; answer = a; toggle = t; armed = nothingArmed; writes = []; memory = m; buffer = buf }
+abbrev pub ended : StepAnswer → Bool → Bool → List ℕ → List ℕ → Outcome
+ended a t v m buf = record { next = Idle; answer = a; toggle = t; moved = v; armed = nothingArmed; writes = []; memory = m; buffer = buf }
 
--- The transfer ends with an error's number (1 to 7 and 9), and the toggle that came in.
-abbrev pub failed : Request → UsbError → List ℕ → List ℕ → Outcome
-failed x e m buf = ended (Refused (Usb e)) (toggleIn (x .kind)) m buf
+-- The transfer ends with an error's number (1 to 7 and 9): "Desk rule 1 leaves the bulk toggle as it was .. rule 2 flips it once per packet retired before the failure".
+abbrev pub failed : Request → Bool → UsbError → List ℕ → List ℕ → Outcome
+failed x parity e m buf = ended (Refused (Usb e)) (toggleIn (x .kind)) (toggleOut (x .kind) parity) m buf
 
 -- The transfer goes on in a stage. `again` is the poll's being ready.
 abbrev pub waits : Request → Stage → Bool → Armed → List Write → List ℕ → List ℕ → Outcome
 waits x st again a ws m buf =
-    record { next = Busy (record { request = x; stage = st }); answer = Waiting again; toggle = toggleIn (x .kind); armed = a; writes = ws; memory = m; buffer = buf }
+    record { next = Busy (record { request = x; stage = st }); answer = Waiting again; toggle = toggleIn (x .kind); moved = toggleIn (x .kind); armed = a; writes = ws; memory = m; buffer = buf }
 
 -- ---- a stage of n bytes begins: its first packets are armed and the transaction is started (rp2040.rs, `control_transfer_inner`)
 

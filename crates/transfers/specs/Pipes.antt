@@ -115,7 +115,7 @@ openingPipe ps address extras endpoint size interval log =
 
 -- Other pipes, and the rest of the driver as it came.
 abbrev pub withPipes : Driver → Pipes → Driver
-withPipes d ps = record { transfer = d .transfer; entries = d .entries; pipes = ps; last = d .last }
+withPipes d ps = record { transfer = d .transfer; entries = d .entries; pipes = ps; last = d .last; rule = d .rule }
 
 -- The same for the driver.
 abbrev pub withOpening : Driver → Opening Pipes → Opening Driver

@@ -34,16 +34,16 @@ use Rattle.transfers.specs.Outcome.{Outcome, after, toggleOut, ended, fa
 
 -- SETUP is done; `short` is "7 In or Out buffer shorter than wLength (None has no such check)".
 abbrev pub setupDone : DataPhase → Bool → Request → ℕ → List ℕ → List ℕ → Outcome
-setupDone phaseIn true x n buf m = failed x BufferTooSmall m buf
+setupDone phaseIn true x n buf m = failed x false BufferTooSmall m buf
 setupDone phaseIn false x n buf m = entersIn x false n m buf
-setupDone phaseOut true x n buf m = failed x BufferTooSmall m buf
+setupDone phaseOut true x n buf m = failed x false BufferTooSmall m buf
 setupDone phaseOut false x n buf m = entersOut x false 0 n buf m buf
 setupDone phaseNone short x n buf m = entersIn x true 0 m buf
 
 -- "in SETUP only waiting"; an error ends it; complete, the data or status stage follows.
 unfoldable pub setupStep : Found → Request → List ℕ → List ℕ → Outcome
 setupStep Complete x buf m = let c = controlOf (x .kind) in setupDone (c .phase) (ltb (x .length) (c .wLength)) x (c .wLength) buf m
-setupStep (Failed e) x buf m = failed x e m buf
+setupStep (Failed e) x buf m = failed x false e m buf
 setupStep Neither x buf m = waits x setupStage true nothingArmed [] m buf
 
 -- ---- IN
@@ -64,22 +64,22 @@ statusCount phaseNone n = 0
 
 -- The stage is complete: the end with a count, or the status stage.
 abbrev pub inControlDone : Bool → DataPhase → Request → ℕ → List ℕ → List ℕ → Outcome
-inControlDone true ph x n m buf = ended (Done (statusCount ph (x .length))) false m buf
+inControlDone true ph x n m buf = ended (Done (statusCount ph (x .length))) false false m buf
 inControlDone false ph x n m buf = entersOut x true n 0 [] m buf
 
 -- A bulk IN ends with the bytes received.
 abbrev pub inDone : Kind → Bool → Request → InDepacketiser → List ℕ → List ℕ → Outcome
 inDone (control c) status x d m buf = inControlDone status (c .phase) x (d .offset) m buf
-inDone (bulk b) status x d m buf = ended (Done (d .offset)) (toggleOut (bulk b) (d .parity)) m buf
+inDone (bulk b) status x d m buf = let t = toggleOut (bulk b) (d .parity) in ended (Done (d .offset)) t t m buf
 
 -- "A completed data or status stage also retires up to two."
 abbrev pub inSecondDone : Bool → InRetiring → Request → Bool → List ℕ → Outcome
-inSecondDone true h x status m = failed x ProtocolError m (h .buffer)
+inSecondDone true h x status m = failed x (h .packets .parity) ProtocolError m (h .buffer)
 inSecondDone false h x status m = inDone (x .kind) status x (h .packets) m (h .buffer)
 
 -- 9 at the first slot; else the completing write, and the second slot.
 abbrev pub inFirstDone : Bool → InRetiring → ℕ → Request → Bool → List ℕ → Outcome
-inFirstDone true g w x status m = failed x ProtocolError m (g .buffer)
+inFirstDone true g w x status m = failed x (g .packets .parity) ProtocolError m (g .buffer)
 inFirstDone false g w x status m =
     let h = inRetireOne w (g .packets) (g .inflight) (g .buffer) m in
     after (completes ∷ []) (inSecondDone (h .long) h x status m)
@@ -97,12 +97,12 @@ inRearm x st d k w m buf =
 
 -- 9 at the second slot; else up to two are armed.
 abbrev pub inSecondMoved : Bool → InRetiring → ℕ → Request → InStage → List ℕ → Outcome
-inSecondMoved true h w x st m = failed x ProtocolError m (h .buffer)
+inSecondMoved true h w x st m = failed x (h .packets .parity) ProtocolError m (h .buffer)
 inSecondMoved false h w x st m = inRearm x st (h .packets) (h .inflight) w m (h .buffer)
 
 -- 9 at the first slot; else the second.
 abbrev pub inFirstMoved : Bool → InRetiring → ℕ → Request → InStage → List ℕ → Outcome
-inFirstMoved true g w x st m = failed x ProtocolError m (g .buffer)
+inFirstMoved true g w x st m = failed x (g .packets .parity) ProtocolError m (g .buffer)
 inFirstMoved false g w x st m =
     let h = inRetireOne w (g .packets) (g .inflight) (g .buffer) m in
     inSecondMoved (h .long) h w x st m
@@ -114,7 +114,7 @@ inMove x st w buf m = let g = inRetireOne w (inReceived st) (st .inflight) buf m
 -- By what the poll found.
 abbrev pub inFound : Found → Request → InStage → ℕ → List ℕ → List ℕ → Outcome
 inFound Complete x st w buf m = inComplete x st w buf m
-inFound (Failed e) x st w buf m = failed x e m buf
+inFound (Failed e) x st w buf m = failed x (st .retire) e m buf
 inFound Neither x st w buf m = inMove x st w buf m
 
 -- A ready poll of an IN stage.
@@ -133,13 +133,13 @@ outRetireTwo w s k = let g = outRetireOne w s k in outRetireOne w (g .parity) (g
 
 -- A control In's status is its end, with the count received; a control Out's data is followed by its status.
 abbrev pub outControlDone : Bool → Request → ℕ → List ℕ → List ℕ → Outcome
-outControlDone true x received m buf = ended (Done received) false m buf
+outControlDone true x received m buf = ended (Done received) false false m buf
 outControlDone false x received m buf = entersIn x true 0 m buf
 
 -- A bulk OUT counts its buffer.
 abbrev pub outDone : Kind → Request → OutStage → Bool → List ℕ → List ℕ → Outcome
 outDone (control c) x st parity m buf = outControlDone (st .status) x (st .received) m buf
-outDone (bulk b) x st parity m buf = ended (Done (x .length)) (toggleOut (bulk b) parity) m buf
+outDone (bulk b) x st parity m buf = let t = toggleOut (bulk b) parity in ended (Done (x .length)) t t m buf
 
 -- A completed OUT stage.
 unfoldable pub outComplete : Request → OutStage → ℕ → List ℕ → List ℕ → Outcome
@@ -156,7 +156,7 @@ outMove x st w buf m =
 -- By what the poll found.
 abbrev pub outFound : Found → Request → OutStage → ℕ → List ℕ → List ℕ → Outcome
 outFound Complete x st w buf m = outComplete x st w m buf
-outFound (Failed e) x st w buf m = failed x e m buf
+outFound (Failed e) x st w buf m = failed x (st .retire) e m buf
 outFound Neither x st w buf m = outMove x st w buf m
 
 -- A ready poll of an OUT stage.
@@ -173,7 +173,7 @@ lent false buf = buf
 -- The caller's buffer stays in a status stage.
 abbrev pub keeping : Bool → List ℕ → Outcome → Outcome
 keeping false buf o = o
-keeping true buf o = record { next = o .next; answer = o .answer; toggle = o .toggle; armed = o .armed; writes = o .writes; memory = o .memory; buffer = buf }
+keeping true buf o = record { next = o .next; answer = o .answer; toggle = o .toggle; moved = o .moved; armed = o .armed; writes = o .writes; memory = o .memory; buffer = buf }
 
 -- A ready poll, by the stage.
 abbrev pub stageStep : Found → Request → Stage → ℕ → List ℕ → List ℕ → Outcome

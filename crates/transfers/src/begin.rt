@@ -22,6 +22,7 @@ use crate::progress::start_in;
 use crate::progress::start_out;
 use crate::progress::target_of;
 use crate::progress::toggle_in;
+use crate::progress::toggle_out;
 use crate::refusal::OptionRefusal;
 use crate::refusal::Refusal;
 use crate::state::address_good;
@@ -37,13 +38,15 @@ ghost use Prim.Native.Nat.{_+_, _≤_, _<_};
 ghost use lib.ListN.{length};
 ghost use Rattle.transfers.specs.Memory.{lentFits};
 ghost use Rattle.transfers.specs.State.{addressGood, sizeGood};
-ghost use Rattle.transfers.specs.Calls.{isIdle, eitherServes, cancelOf, fieldsRefusal, beginRefusal, beginControlOf, beginBulkInOf, beginBulkOutOf};
+ghost use Rattle.transfers.specs.Calls.{isIdle, eitherServes, stageParity, cancelOf, fieldsRefusal, beginRefusal, beginControlOf, beginBulkInOf, beginBulkOutOf};
 ghost use Rattle.transfers.specs.Begins.{cancels, refusing, Begins};
 
+// `toggle` is what desk rule 1 hands out, `moved` what rule 2 does.
 pub(crate) struct Cancelled {
     pub next: Transfer,
     pub answer: CancelAnswer,
     pub toggle: bool,
+    pub moved: bool,
 }
 
 pub(crate) struct Beginning {
@@ -63,6 +66,17 @@ fn either_serves(run: Run) -> bool
     }
 }
 
+// The parity of the packets that a stage has retired.
+fn stage_parity(stage: Stage) -> bool
+    ensures { λ r. ⌜ r ≡ stageParity stage ⌝ }
+{
+    match stage {
+        Stage::Setup => false,
+        Stage::In(st) => st.retire,
+        Stage::Out(st) => st.retire,
+    }
+}
+
 pub(crate) fn cancel(t: Transfer) -> Cancelled
     ensures { λ r. ⌜ r ≡ cancels (cancelOf t) ⌝ }
 {
@@ -71,21 +85,26 @@ pub(crate) fn cancel(t: Transfer) -> Cancelled
             next: t,
             answer: CancelAnswer::Refused(Refusal::State),
             toggle: false,
+            moved: false,
         };
     };
     let x = run.request;
     let kind = x.kind;
+    let stage = run.stage;
+    let toggle = toggle_in(kind);
     if either_serves(run) {
         Cancelled {
             next: Transfer::Idle,
             answer: CancelAnswer::Cancelled,
-            toggle: toggle_in(kind),
+            toggle: toggle,
+            moved: toggle_out(kind, stage_parity(stage)),
         }
     } else {
         Cancelled {
             next: t,
             answer: CancelAnswer::Refused(Refusal::State),
-            toggle: toggle_in(kind),
+            toggle: toggle,
+            moved: toggle,
         }
     }
 }

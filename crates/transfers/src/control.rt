@@ -4,6 +4,7 @@ use crate::answers::BeginAnswer;
 use crate::answers::CancelAnswer;
 use crate::answers::OptionEntries;
 use crate::answers::StepAnswer;
+use crate::driver::DeskRule;
 use crate::driver::Driver;
 use crate::driver::Transfer;
 use crate::entries::entries_begun;
@@ -21,7 +22,7 @@ use cutting::transfer_type::TransferType;
 ghost use mathlib.Core.Path.{_≡_};
 ghost use mathlib.Core.Bool.{true, false};
 ghost use Rattle.transfers.specs.Calls.{stepOf, cancelOf, beginControlOf, beginBulkInOf, beginBulkOutOf};
-ghost use Rattle.transfers.specs.Driver.{fresh, withTransfer, DidBegin, DidStep, dropped};
+ghost use Rattle.transfers.specs.Driver.{fresh, withTransfer, handedOut, DidBegin, DidStep, dropped};
 ghost use Rattle.transfers.specs.Reply.{beginReply, stepReply, cancelReply};
 ghost use Rattle.transfers.specs.Rows.{controlRow, bulkRow, stepRow, cancelRow};
 
@@ -54,23 +55,36 @@ fn with_transfer(d: Driver, t: Transfer, entries: u32) -> Driver
 {
     let pipes = d.pipes;
     let last = d.last;
+    let rule = d.rule;
     Driver {
         transfer: t,
         entries: entries,
         pipes: pipes,
         last: last,
+        rule: rule,
+    }
+}
+
+// The toggle of a step or cancel, by the desk rule.
+fn handed_out(rule: DeskRule, toggle: bool, moved: bool) -> bool
+    ensures { λ r. ⌜ r ≡ handedOut rule toggle moved ⌝ }
+{
+    match rule {
+        DeskRule::One => toggle,
+        DeskRule::Two => moved,
     }
 }
 
 impl Driver {
-    pub fn new() -> Driver
-        ensures { λ r. ⌜ r ≡ fresh ⌝ }
+    pub fn new(rule: DeskRule) -> Driver
+        ensures { λ r. ⌜ r ≡ fresh rule ⌝ }
     {
         Driver {
             transfer: Transfer::Idle,
             entries: 0,
             pipes: fresh_pipes(),
             last: DeviceStatus::Absent,
+            rule: rule,
         }
     }
 
@@ -186,6 +200,7 @@ impl Driver {
             × (now (buf .exit) ≡ stepOf true (self .transfer) sample (now (buf .entry)) (now (pm .entry)) (now (log .entry)) .buffer)
             × (stepReply (r .answer) ≡ stepRow true (self .transfer) sample (now (buf .entry)) (now (pm .entry)) (now (log .entry))) ⌝ }
     {
+        let rule = self.rule;
         let t = self.transfer;
         let p = crate::step::step_in(t, sample, buf, pm, log);
         let next = p.next;
@@ -197,7 +212,7 @@ impl Driver {
         Stepped {
             next: self,
             answer: answer,
-            toggle: p.toggle,
+            toggle: handed_out(rule, p.toggle, p.moved),
             armed: armed,
             failed: failed,
             writes: p.writes,
@@ -209,6 +224,7 @@ impl Driver {
         ensures { λ r. ⌜ DidStep self (stepOf false (self .transfer) sample (now (buf .entry)) (now (pm .entry)) (now (log .entry))) (now (log .entry)) r (now (pm .exit)) (now (log .exit))
             × (stepReply (r .answer) ≡ stepRow false (self .transfer) sample (now (buf .entry)) (now (pm .entry)) (now (log .entry))) ⌝ }
     {
+        let rule = self.rule;
         let t = self.transfer;
         let p = crate::step::step_out(t, sample, buf, pm, log);
         let next = p.next;
@@ -220,7 +236,7 @@ impl Driver {
         Stepped {
             next: self,
             answer: answer,
-            toggle: p.toggle,
+            toggle: handed_out(rule, p.toggle, p.moved),
             armed: armed,
             failed: failed,
             writes: p.writes,
@@ -231,6 +247,7 @@ impl Driver {
     pub fn cancel(mut self) -> Dropped
         ensures { λ r. ⌜ (r ≡ dropped self (cancelOf (self .transfer))) × (cancelReply (r .answer) ≡ cancelRow (self .transfer)) ⌝ }
     {
+        let rule = self.rule;
         let t = self.transfer;
         let c = crate::begin::cancel(t);
         let next = c.next;
@@ -241,7 +258,7 @@ impl Driver {
         Dropped {
             next: self,
             answer: answer,
-            toggle: c.toggle,
+            toggle: handed_out(rule, c.toggle, c.moved),
             failed: failed,
         }
     }

@@ -102,6 +102,7 @@ impl Driver {
         ensures { λ r. ⌜ DidDetect (detecting self sie (now (log .entry))) (r .next) (r .answer) (r .writes) (now (log .entry)) (now (log .exit))
             × (detectReply (r .answer) ≡ detectRow (self .last) sie (now (log .entry))) ⌝ }
     {
+        let rule = self.rule;
         let transfer = self.transfer;
         let entries = self.entries;
         let pipes = self.pipes;
@@ -115,6 +116,7 @@ impl Driver {
                 entries,
                 pipes,
                 last: next,
+                rule,
             },
             answer,
             writes: d.writes,

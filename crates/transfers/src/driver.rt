@@ -4,12 +4,19 @@ use crate::host_controller::DeviceStatus;
 use crate::wire::Direction;
 use pool::bitset::BitSet;
 
+// What becomes of a bulk transfer's toggle when it fails or is cancelled: it stays as it came in (rule 1), or has flipped once per packet retired (rule 2).
+pub enum DeskRule {
+    One,
+    Two,
+}
+
 // `entries` is how many entries of the wire record the transfer under way has armed.
 pub struct Driver {
     pub transfer: Transfer,
     pub entries: u32,
     pub pipes: Pipes,
     pub last: DeviceStatus,
+    pub rule: DeskRule,
 }
 
 // The control pipe: nothing under way, or a transfer.

@@ -80,7 +80,12 @@ fn in_control_done(
     ensures { λ r. ⌜ ((b : List ℕ) → Moves (inControlDone status phase x received (now (pm .entry)) b) (now (log .entry)) k r (now (pm .exit)) (now (log .exit))) ⌝ }
 {
     if status {
-        return end(StepAnswer::Done(status_count(phase, x.length)), false, k);
+        return end(
+            StepAnswer::Done(status_count(phase, x.length)),
+            false,
+            false,
+            k,
+        );
     }
     let none = [0u8; 0];
     enter_out(x, true, received, 0, &none, pm, log, k)
@@ -103,11 +108,10 @@ fn in_done(
             let phase = c.phase;
             in_control_done(x, status, phase, d.offset, pm, log, k)
         }
-        Kind::Bulk(b) => end(
-            StepAnswer::Done(d.offset as usize),
-            flip(b.toggle, d.parity),
-            k,
-        ),
+        Kind::Bulk(b) => {
+            let toggle = flip(b.toggle, d.parity);
+            end(StepAnswer::Done(d.offset as usize), toggle, toggle, k)
+        }
     }
 }
 
@@ -127,13 +131,13 @@ fn in_complete(
     let c = in_received(st);
     let g = in_retire(buffers, c, st.inflight, buf, pm);
     if g.long {
-        return fail(x, UsbError::ProtocolError, k);
+        return fail(x, g.packets.parity, UsbError::ProtocolError, k);
     }
     let k = put(log, k, SIE_STATUS, ALL, RESULTS);
     let d = g.packets;
     let h = in_retire(buffers, d, g.inflight, buf, pm);
     if h.long {
-        return fail(x, UsbError::ProtocolError, k);
+        return fail(x, h.packets.parity, UsbError::ProtocolError, k);
     }
     let e = h.packets;
     in_done(x, st.status, e, pm, log, k)
@@ -185,12 +189,12 @@ fn in_move(
     let c = in_received(st);
     let g = in_retire(buffers, c, st.inflight, buf, pm);
     if g.long {
-        return fail(x, UsbError::ProtocolError, k);
+        return fail(x, g.packets.parity, UsbError::ProtocolError, k);
     }
     let d = g.packets;
     let h = in_retire(buffers, d, g.inflight, buf, pm);
     if h.long {
-        return fail(x, UsbError::ProtocolError, k);
+        return fail(x, h.packets.parity, UsbError::ProtocolError, k);
     }
     let e = h.packets;
     in_rearm(x, st, e, h.inflight, buffers, log, k)
@@ -212,7 +216,7 @@ pub(crate) fn in_step(
     let k = put_quiets(log, k);
     match found {
         Found::Complete => in_complete(x, st, buffers, buf, pm, log, k),
-        Found::Failed(e) => fail(x, e, k),
+        Found::Failed(e) => fail(x, st.retire, e, k),
         Found::Neither => in_move(x, st, buffers, buf, pm, log, k),
     }
 }

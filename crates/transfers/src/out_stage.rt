@@ -51,7 +51,7 @@ fn out_control_done(x: Request, status: bool, received: u16, log: &mut [u32], k:
     ensures { λ r. ⌜ ((m buf : List ℕ) → Tells (outControlDone status x received m buf) (now (log .entry)) k r (now (log .exit))) ⌝ }
 {
     if status {
-        return end(StepAnswer::Done(received as usize), false, k);
+        return end(StepAnswer::Done(received as usize), false, false, k);
     }
     enter_in(x, true, 0, log, k)
 }
@@ -63,7 +63,10 @@ fn out_done(x: Request, st: OutStage, parity: bool, log: &mut [u32], k: usize) -
     let kind = x.kind;
     match kind {
         Kind::Control(_) => out_control_done(x, st.status, st.received, log, k),
-        Kind::Bulk(b) => end(StepAnswer::Done(x.length), flip(b.toggle, parity), k),
+        Kind::Bulk(b) => {
+            let toggle = flip(b.toggle, parity);
+            end(StepAnswer::Done(x.length), toggle, toggle, k)
+        }
     }
 }
 
@@ -130,7 +133,7 @@ pub(crate) fn out_step(
     let k = put_quiets(log, k);
     match found {
         Found::Complete => out_complete(x, st, buffers, log, k),
-        Found::Failed(e) => fail(x, e, k),
+        Found::Failed(e) => fail(x, st.retire, e, k),
         Found::Neither => out_move(x, st, buffers, buf, pm, log, k),
     }
 }

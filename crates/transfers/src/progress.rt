@@ -30,15 +30,17 @@ ghost use Prim.Native.Nat.{ℕ, _≤_};
 ghost use lib.ListN.{length};
 ghost use Rattle.transfers.specs.Answers.{nothingArmed, outsArmed};
 ghost use Rattle.transfers.specs.State.{firstPid, targetOf, stageLength};
-ghost use Rattle.transfers.specs.Outcome.{toggleIn, flipped, ended, failed, waits, startIn, startOut, entersIn, entersOut};
+ghost use Rattle.transfers.specs.Outcome.{toggleIn, flipped, toggleOut, ended, failed, waits, startIn, startOut, entersIn, entersOut};
 ghost use Rattle.transfers.specs.Acts.{told, Tells, Moves};
 ghost use Rattle.transfers.specs.Starts.{StartsIn, StartsOut};
 ghost use Rattle.transfers.specs.Memory.{LogFits, MemoryFits};
 
+// `toggle` is what desk rule 1 hands out, `moved` what rule 2 does.
 pub struct Progress {
     pub next: Transfer,
     pub answer: StepAnswer,
     pub toggle: bool,
+    pub moved: bool,
     pub armed: Armed,
     pub writes: usize,
 }
@@ -89,6 +91,16 @@ pub(crate) fn flip(toggle: bool, parity: bool) -> bool
     if parity { !toggle } else { toggle }
 }
 
+// A bulk transfer's toggle, flipped by the parity of the packets retired.
+pub(crate) fn toggle_out(kind: Kind, parity: bool) -> bool
+    ensures { λ r. ⌜ r ≡ toggleOut kind parity ⌝ }
+{
+    match kind {
+        Kind::Control(_) => false,
+        Kind::Bulk(b) => flip(b.toggle, parity),
+    }
+}
+
 // The length of a stage.
 pub(crate) fn stage_length(x: Request, status: bool) -> usize
     ensures { λ r. ⌜ r ≡ stageLength x status ⌝ }
@@ -124,25 +136,28 @@ pub(crate) fn target_of(x: Request) -> Target
 }
 
 // Every end of a transfer: the control pipe is free again.
-pub(crate) fn end(answer: StepAnswer, toggle: bool, writes: usize) -> Progress
-    ensures { λ r. ⌜ r ≡ told (ended answer toggle [] []) writes ⌝ }
+pub(crate) fn end(answer: StepAnswer, toggle: bool, moved: bool, writes: usize) -> Progress
+    ensures { λ r. ⌜ r ≡ told (ended answer toggle moved [] []) writes ⌝ }
 {
     Progress {
         next: Transfer::Idle,
         answer: answer,
         toggle: toggle,
+        moved: moved,
         armed: nothing_armed(),
         writes: writes,
     }
 }
 
-pub(crate) fn fail(x: Request, e: UsbError, writes: usize) -> Progress
-    ensures { λ r. ⌜ r ≡ told (failed x e [] []) writes ⌝ }
+// The end with an error: `parity` is that of the packets retired before it.
+pub(crate) fn fail(x: Request, parity: bool, e: UsbError, writes: usize) -> Progress
+    ensures { λ r. ⌜ r ≡ told (failed x parity e [] []) writes ⌝ }
 {
     let kind = x.kind;
     end(
         StepAnswer::Refused(Refusal::Usb(e)),
         toggle_in(kind),
+        toggle_out(kind, parity),
         writes,
     )
 }
@@ -151,13 +166,15 @@ pub(crate) fn wait(x: Request, stage: Stage, again: bool, armed: Armed, writes: 
     ensures { λ r. ⌜ r ≡ told (waits x stage again armed [] [] []) writes ⌝ }
 {
     let kind = x.kind;
+    let toggle = toggle_in(kind);
     Progress {
         next: Transfer::Busy(Run {
             request: x,
             stage: stage,
         }),
         answer: StepAnswer::Waiting(again),
-        toggle: toggle_in(kind),
+        toggle: toggle,
+        moved: toggle,
         armed: armed,
         writes: writes,
     }

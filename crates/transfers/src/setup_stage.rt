@@ -50,13 +50,13 @@ fn setup_done(
         DataPhase::None => enter_in(x, true, 0, log, k),
         DataPhase::In => {
             if x.length < n as usize {
-                return fail(x, UsbError::BufferTooSmall, k);
+                return fail(x, false, UsbError::BufferTooSmall, k);
             }
             enter_in(x, false, n, log, k)
         }
         DataPhase::Out => {
             if x.length < n as usize {
-                return fail(x, UsbError::BufferTooSmall, k);
+                return fail(x, false, UsbError::BufferTooSmall, k);
             }
             enter_out(x, false, 0, n, buf, pm, log, k)
         }
@@ -81,7 +81,7 @@ pub(crate) fn setup_step(
             let phase = c.phase;
             setup_done(phase, x, c.wLength, buf, pm, log, k)
         }
-        Found::Failed(e) => fail(x, e, k),
+        Found::Failed(e) => fail(x, false, e, k),
         Found::Neither => wait(x, Stage::Setup, true, nothing_armed(), k),
     }
 }

@@ -216,10 +216,12 @@ pub(crate) fn held_toggle(t: Transfer) -> bool
 fn refuse(t: Transfer, e: Refusal) -> Progress
     ensures { λ r. ⌜ r ≡ told (refuses t e [] []) 0 ⌝ }
 {
+    let toggle = held_toggle(t);
     Progress {
         next: t,
         answer: StepAnswer::Refused(e),
-        toggle: held_toggle(t),
+        toggle: toggle,
+        moved: toggle,
         armed: nothing_armed(),
         writes: 0,
     }

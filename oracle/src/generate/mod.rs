@@ -8,6 +8,7 @@ mod well;
 
 use crate::player::Player;
 use crate::rng::Rng;
+use crate::script::DeskRule;
 use std::io::{self, Write};
 
 #[derive(Clone, Copy, PartialEq, Eq)]
@@ -41,13 +42,22 @@ impl Kind {
 
 /// A script with at least `calls` driver calls, refused ones too. Other lines come in
 /// between. The number of calls is answered.
-pub fn generate(seed: u64, calls: u64, kind: Kind, out: impl Write) -> io::Result<u64> {
+pub fn generate(
+    seed: u64,
+    calls: u64,
+    kind: Kind,
+    rule: DeskRule,
+    out: impl Write,
+) -> io::Result<u64> {
     let mut generator = Generator {
         rng: Rng::new(seed),
         kind,
         player: Player::new(out),
     };
-    generator.line("fresh")?;
+    generator.player.line(match rule {
+        DeskRule::One => b"fresh",
+        DeskRule::Two => b"rule 2",
+    })?;
     while generator.player.calls < calls {
         if generator.rng.once_in(400) {
             generator.line("record")?;
@@ -103,7 +113,7 @@ mod tests {
 
     fn script(seed: u64, kind: Kind) -> Vec<u8> {
         let mut out = Vec::new();
-        assert!(generate(seed, 3000, kind, &mut out).unwrap() >= 3000);
+        assert!(generate(seed, 3000, kind, DeskRule::One, &mut out).unwrap() >= 3000);
         out
     }
 

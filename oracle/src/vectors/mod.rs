@@ -13,6 +13,7 @@ mod samples;
 mod scripts;
 mod slots;
 mod stages;
+mod toggles;
 
 use crate::player::Player;
 use crate::script::{Step, Way};
@@ -34,6 +35,7 @@ pub fn vectors(out: impl Write) -> io::Result<()> {
     vectors.control()?;
     vectors.pipes()?;
     vectors.record()?;
+    vectors.toggles()?;
     vectors.player.flush()
 }
 

@@ -110,24 +110,53 @@ returns-5 c =
     let same = c .before .before .before .before .before .before .before .before .before .before .before .before .before .before .same in
     (simp (sym (same .ensures) ∙ if1, sym (same2 .ensures) ∙ if2, sym (same3 .ensures) ∙ if3, sym (same4 .ensures) ∙ if4, sym (same5 .ensures) ∙ if5) (read-lend .ensures), simp (sym (same .ensures) ∙ if1, sym (same2 .ensures) ∙ if2, sym (same3 .ensures) ∙ if3, sym (same4 .ensures) ∙ if4, sym (same5 .ensures) ∙ if5))
 
-read-pipe-requires : tie.Need-read-pipe-requires
-read-pipe-requires c κs = tt
+slice-aggregate-same-6 : tie.Need-slice-aggregate-same-6
+slice-aggregate-same-6 c = refl
+
+same-requires-6 : tie.Need-same-requires-6
+same-requires-6 c κs = tt
+
+read-rule-requires : tie.Need-read-rule-requires
+read-rule-requires c κs = tt
 
 returns-6 : tie.Need-returns-6
 unfolding callOf
 returns-6 c =
+    let read-rule = c .read-rule in
+    let if6 = c .before .if6 .taken in
+    let same6 = c .before .before .same6 in
+    let if5 = c .before .before .before .before .if5 .left in
+    let same5 = c .before .before .before .before .before .same5 in
+    let if4 = c .before .before .before .before .before .before .before .if4 .left in
+    let same4 = c .before .before .before .before .before .before .before .before .same4 in
+    let if3 = c .before .before .before .before .before .before .before .before .before .before .if3 .left in
+    let same3 = c .before .before .before .before .before .before .before .before .before .before .before .same3 in
+    let if2 = c .before .before .before .before .before .before .before .before .before .before .before .before .before .if2 .left in
+    let same2 = c .before .before .before .before .before .before .before .before .before .before .before .before .before .before .same2 in
+    let if1 = c .before .before .before .before .before .before .before .before .before .before .before .before .before .before .before .before .if1 .left in
+    let same = c .before .before .before .before .before .before .before .before .before .before .before .before .before .before .before .before .before .same in
+    (simp (sym (same .ensures) ∙ if1, sym (same2 .ensures) ∙ if2, sym (same3 .ensures) ∙ if3, sym (same4 .ensures) ∙ if4, sym (same5 .ensures) ∙ if5, sym (same6 .ensures) ∙ if6) (read-rule .ensures), simp (sym (same .ensures) ∙ if1, sym (same2 .ensures) ∙ if2, sym (same3 .ensures) ∙ if3, sym (same4 .ensures) ∙ if4, sym (same5 .ensures) ∙ if5, sym (same6 .ensures) ∙ if6))
+
+read-pipe-requires : tie.Need-read-pipe-requires
+read-pipe-requires c κs = tt
+
+returns-7 : tie.Need-returns-7
+unfolding callOf
+returns-7 c =
     let read-pipe = c .read-pipe in
-    let if5 = c .before .before .if5 .left in
-    let same5 = c .before .before .before .same5 in
-    let if4 = c .before .before .before .before .before .if4 .left in
-    let same4 = c .before .before .before .before .before .before .same4 in
-    let if3 = c .before .before .before .before .before .before .before .before .if3 .left in
-    let same3 = c .before .before .before .before .before .before .before .before .before .same3 in
-    let if2 = c .before .before .before .before .before .before .before .before .before .before .before .if2 .left in
-    let same2 = c .before .before .before .before .before .before .before .before .before .before .before .before .same2 in
-    let if1 = c .before .before .before .before .before .before .before .before .before .before .before .before .before .before .if1 .left in
-    let same = c .before .before .before .before .before .before .before .before .before .before .before .before .before .before .before .same in
-    (simp (sym (same .ensures) ∙ if1, sym (same2 .ensures) ∙ if2, sym (same3 .ensures) ∙ if3, sym (same4 .ensures) ∙ if4, sym (same5 .ensures) ∙ if5) (read-pipe .ensures .0), simp (sym (same .ensures) ∙ if1, sym (same2 .ensures) ∙ if2, sym (same3 .ensures) ∙ if3, sym (same4 .ensures) ∙ if4, sym (same5 .ensures) ∙ if5) (read-pipe .ensures .1))
+    let if6 = c .before .before .if6 .left in
+    let same6 = c .before .before .before .same6 in
+    let if5 = c .before .before .before .before .before .if5 .left in
+    let same5 = c .before .before .before .before .before .before .same5 in
+    let if4 = c .before .before .before .before .before .before .before .before .if4 .left in
+    let same4 = c .before .before .before .before .before .before .before .before .before .same4 in
+    let if3 = c .before .before .before .before .before .before .before .before .before .before .before .if3 .left in
+    let same3 = c .before .before .before .before .before .before .before .before .before .before .before .before .same3 in
+    let if2 = c .before .before .before .before .before .before .before .before .before .before .before .before .before .before .if2 .left in
+    let same2 = c .before .before .before .before .before .before .before .before .before .before .before .before .before .before .before .same2 in
+    let if1 = c .before .before .before .before .before .before .before .before .before .before .before .before .before .before .before .before .before .if1 .left in
+    let same = c .before .before .before .before .before .before .before .before .before .before .before .before .before .before .before .before .before .before .same in
+    (simp (sym (same .ensures) ∙ if1, sym (same2 .ensures) ∙ if2, sym (same3 .ensures) ∙ if3, sym (same4 .ensures) ∙ if4, sym (same5 .ensures) ∙ if5, sym (same6 .ensures) ∙ if6) (read-pipe .ensures .0), simp (sym (same .ensures) ∙ if1, sym (same2 .ensures) ∙ if2, sym (same3 .ensures) ∙ if3, sym (same4 .ensures) ∙ if4, sym (same5 .ensures) ∙ if5, sym (same6 .ensures) ∙ if6) (read-pipe .ensures .1))
 
 pub read-call-spec : {M : Type 1} → statement M
 read-call-spec =
@@ -153,5 +182,9 @@ read-call-spec =
     same-requires-5
     read-lend-requires
     returns-5
+    slice-aggregate-same-6
+    same-requires-6
+    read-rule-requires
+    returns-6
     read-pipe-requires
-    returns-6)
+    returns-7)

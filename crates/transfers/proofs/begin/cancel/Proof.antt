@@ -15,22 +15,29 @@ returns : tie.Need-returns
 unfolding cancelOf
 returns c = simp ((c .enum-told) .given .1)
 
-either-serves-requires : tie.Need-either-serves-requires
-either-serves-requires c κs = search needs
-
 toggle-in-requires : tie.Need-toggle-in-requires
 toggle-in-requires c κs = search needs
 
-toggle-in-requires-2 : tie.Need-toggle-in-requires-2
-toggle-in-requires-2 c κs = search needs
+either-serves-requires : tie.Need-either-serves-requires
+either-serves-requires c κs = search needs
+
+stage-parity-requires : tie.Need-stage-parity-requires
+stage-parity-requires c κs = search needs
+
+toggle-out-requires : tie.Need-toggle-out-requires
+toggle-out-requires c κs = search needs
 
 returns-2 : tie.Need-returns-2
 unfolding cancelOf
-returns-2 c = simp ((c .before .before .before .before .before .t) .given .1, sym ((c .before .before .either-serves) .ensures) ∙ (c .before .if1 .taken), (c .toggle-in) .ensures)
+returns-2 c =
+    let d = c .before .before .before in
+    simp (d .before .before .before .before .t .given .1, sym (d .either-serves .ensures) ∙ c .before .before .if1 .taken, d .before .toggle-in .ensures, c .toggle-out .ensures, c .before .stage-parity .ensures)
 
 returns-3 : tie.Need-returns-3
 unfolding cancelOf
-returns-3 c = simp ((c .before .before .before .before .before .t) .given .1, sym ((c .before .before .either-serves) .ensures) ∙ (c .before .if1 .left), (c .toggle-in2) .ensures)
+returns-3 c =
+    let d = c .before in
+    simp (d .before .before .before .before .t .given .1, sym (d .either-serves .ensures) ∙ c .if1 .left, d .before .toggle-in .ensures)
 
 pub cancel-spec : {M : Type 1} → statement M
 cancel-spec =
@@ -39,8 +46,9 @@ cancel-spec =
     enum-known-t
     enum-told
     returns
-    either-serves-requires
     toggle-in-requires
-    toggle-in-requires-2
+    either-serves-requires
+    stage-parity-requires
+    toggle-out-requires
     returns-2
     returns-3)

@@ -32,7 +32,7 @@ returns : tie.Need-returns
 unfolding inComplete
 returns c =
     let g = rw ((c .before .before .before .before .before .before .before .in-received) .ensures) at ((c .before .before .before .before .in-retire) .ensures) in
-    simp (sym (g .long) ∙ (c .before .if1 .taken)) (record { tells = telling _ ((c .fail) .ensures) (nothing _ _); memory = refl; buffer = g .buffer })
+    simp (sym (g .long) ∙ (c .before .if1 .taken)) (record { tells = telling _ (rw (g .packets) at ((c .fail) .ensures)) (nothing _ _); memory = refl; buffer = g .buffer })
 
 put-requires : tie.Need-put-requires
 put-requires c κs = search needs
@@ -62,7 +62,7 @@ returns-2 c =
     let g = rw ((c .before .before .before .before .before .before .before .before .before .before .before .before .before .before .before .before .before .before .in-received) .ensures) at ((c .before .before .before .before .before .before .before .before .before .before .before .before .before .before .before .in-retire) .ensures) in
     let h = rw (g .packets, g .inflight, g .buffer) at ((c .before .before .before .before .in-retire2) .ensures) in
     simp (sym (g .long) ∙ (c .before .before .before .before .before .before .before .before .before .before .before .before .if1 .left), sym (h .long) ∙ (c .before .if2 .taken))
-    (record { tells = tells-after (completes ∷ []) _ ((c .before .before .before .before .before .before .before .before .before .before .put) .ensures) (telling _ ((c .fail2) .ensures) (nothing _ _)); memory = refl; buffer = h .buffer })
+    (record { tells = tells-after (completes ∷ []) _ ((c .before .before .before .before .before .before .before .before .before .before .put) .ensures) (telling _ (rw (h .packets) at ((c .fail2) .ensures)) (nothing _ _)); memory = refl; buffer = h .buffer })
 
 in-done-requires : tie.Need-in-done-requires
 in-done-requires c κs = (omega (arith, (c .before .before .before .before .before .before .before .before .before .before .before .before .before .before .before .before .before .before .before .before .before .before .before .before .pre)), omega (arith, (c .before .before .before .before .before .before .before .before .before .before .before .before .put) .ensures .count, (c .before .before .before .before .before .before .before .before .before .before .before .before .before .before .before .before .before .before .before .before .before .before .before .before .pre)), omega (arith, (c .before .before .before .before .before .before .before .before .before .before .before .before .put) .kept, (c .before .before .before .before .before .before .before .before .before .before .before .before .before .before .before .before .before .before .before .before .before .before .before .before .pre)))

@@ -18,11 +18,11 @@ in-control-done-requires c κs = search needs
 enum-known-kind-2 : tie.Need-enum-known-kind-2
 enum-known-kind-2 c = search needs
 
-cast-t16 : tie.Need-cast-t16
-cast-t16 c = search needs
-
 flip-requires : tie.Need-flip-requires
 flip-requires c κs = search needs
+
+cast-t17 : tie.Need-cast-t17
+cast-t17 c = search needs
 
 end-requires : tie.Need-end-requires
 end-requires c κs = search needs
@@ -37,7 +37,7 @@ returns : tie.Need-returns
 returns c = let a = (c .before .before .before .before .before .before .before .before .before .before .before .before .args) in λ b. moves-at (ap (λ (k : Kind). inDone k (a .status) (a .x) (a .d) (now (a .pm)) b) (sym ((c .before .before .before .before .before .before .before .before .kind) .given .1))) ((c .before .before .before .before .in-control-done) .ensures b)
 
 returns-2 : tie.Need-returns-2
-returns-2 c = λ b. simp ((c .before .before .before .before .kind2) .given .1) (record { tells = telling _ (rw ((c .before .flip) .ensures) at ((c .end) .ensures)) (nothing _ _); memory = refl })
+returns-2 c = λ b. simp ((c .before .before .before .before .kind2) .given .1) (record { tells = telling _ (rw ((c .before .before .flip) .ensures) at ((c .end) .ensures)) (nothing _ _); memory = refl })
 
 pub in-done-spec : {M : Type 1} → statement M
 in-done-spec =
@@ -46,8 +46,8 @@ in-done-spec =
     enum-known-kind
     in-control-done-requires
     enum-known-kind-2
-    cast-t16
     flip-requires
+    cast-t17
     end-requires
     same-length
     same-length-2

@@ -30,7 +30,7 @@ returns : tie.Need-returns
 unfolding inMove
 returns c =
     let g = rw ((c .before .before .before .before .before .before .before .in-received) .ensures) at ((c .before .before .before .before .in-retire) .ensures) in
-    simp (sym (g .long) ∙ (c .before .if1 .taken)) (record { tells = telling _ ((c .fail) .ensures) (nothing _ _); memory = refl; buffer = g .buffer })
+    simp (sym (g .long) ∙ (c .before .if1 .taken)) (record { tells = telling _ (rw (g .packets) at ((c .fail) .ensures)) (nothing _ _); memory = refl; buffer = g .buffer })
 
 in-retire-requires-2 : tie.Need-in-retire-requires-2
 in-retire-requires-2 c κs =
@@ -53,7 +53,7 @@ unfolding inMove
 returns-2 c =
     let g = rw ((c .before .before .before .before .before .before .before .before .before .before .before .before .before .before .in-received) .ensures) at ((c .before .before .before .before .before .before .before .before .before .before .before .in-retire) .ensures) in
     let h = rw (g .packets, g .inflight, g .buffer) at ((c .before .before .before .before .in-retire2) .ensures) in
-    simp (sym (g .long) ∙ (c .before .before .before .before .before .before .before .before .if1 .left), sym (h .long) ∙ (c .before .if2 .taken)) (record { tells = telling _ ((c .fail2) .ensures) (nothing _ _); memory = refl; buffer = h .buffer })
+    simp (sym (g .long) ∙ (c .before .before .before .before .before .before .before .before .if1 .left), sym (h .long) ∙ (c .before .if2 .taken)) (record { tells = telling _ (rw (h .packets) at ((c .fail2) .ensures)) (nothing _ _); memory = refl; buffer = h .buffer })
 
 in-rearm-requires : tie.Need-in-rearm-requires
 in-rearm-requires c κs = search needs
