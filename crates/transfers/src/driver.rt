@@ -13,10 +13,10 @@ pub enum DeskRule {
 // `entries` is how many entries of the wire record the transfer under way has armed.
 pub struct Driver {
     pub transfer: Transfer,
+    pub rule: DeskRule,
     pub entries: u32,
     pub pipes: Pipes,
     pub last: DeviceStatus,
-    pub rule: DeskRule,
 }
 
 // The control pipe: nothing under way, or a transfer.
