@@ -53,7 +53,7 @@ use Rattle.transfers.specs.Sample.{errors, firstOf, classify, full, lengthIn}
 use Rattle.transfers.specs.Retiring.{InRetiring, inTaken, inRetireIf, inRetireOne}
 use Rattle.transfers.specs.Ready.{InIsStatus}
 use Rattle.transfers.specs.State.{controlOf, targetOf, addressGood, endpointGood, sizeGood}
-use Rattle.transfers.specs.Outcome.{Outcome, toggleOut, startIn}
+use Rattle.transfers.specs.Outcome.{Outcome, toggleOut, flipped, startIn}
 use Rattle.transfers.specs.Step.{setupDone, setupStep, inReceived, inDone, inSecondDone, inFirstDone, inComplete, inSecondMoved, inFirstMoved, inRearm, inMove, inStep, outRetireTwo, outControlDone, outDone, outComplete, outMove, outStep, lent, keeping, stageStep, polls, acts}
 use Rattle.transfers.specs.Calls.{refuses, stageParity, stepIf, mayStep, stepLent, stepOf, wellFormed, isIdle, fieldsRefusal, beginRefusal, Beginning, bulkRequest, beginsBulkIn, beginBulkInOf, beginControlOf}
 use Rattle.transfers.proofs.OpenPipes.{between, lent-sizes}
@@ -77,9 +77,18 @@ abbrev pub StaysWith : Request → Transfer → Type 0
 StaysWith x Idle = ⊥
 StaysWith x (Busy r) = r .request ≡ x
 
+-- A control transfer has no toggle.
+abbrev pub NoToggle : Kind → Bool → Type 0
+NoToggle (control c) t = t ≡ false
+NoToggle (bulk b) t = Unit {0}
+
+none-out : (k : Kind) → NoToggle k false
+none-out (control c) = refl
+none-out (bulk b) = tt
+
 abbrev pub Keeps : List ℕ → Request → Bool → (List ℕ → Bool → Type 0) → StepAnswer → List ℕ → Bool → Bool → Transfer → Type 0
 Keeps buf x v₀ Nine (Waiting again) b t v n = (v ≡ t) × StaysWith x n
-Keeps buf x v₀ Nine (Done count) b t v n = v ≡ t
+Keeps buf x v₀ Nine (Done count) b t v n = (v ≡ t) × NoToggle (x .kind) t
 Keeps buf x v₀ Nine (Refused why) b t v n = ((b ≡ buf) × (v ≡ v₀) × (eqb (numberOf why) 9 ≡ false)) ⊎ (Nine b v × (eqb (numberOf why) 9 ≡ true))
 
 abbrev pub KeepsOf : List ℕ → Request → Bool → (List ℕ → Bool → Type 0) → Outcome → Type 0
@@ -114,10 +123,10 @@ long-stays w c k buf m = go (ltb 0 k && full w (c .parity)) (ltb 64 (lengthIn w 
 abbrev pub Held : Kind → InStage → ℕ → List ℕ → List ℕ → List ℕ → Bool → Type 0
 Held k st w buf m b v = Long st w buf m × (b ≡ firstOne st w buf m .buffer) × (v ≡ toggleOut k (firstOne st w buf m .packets .parity))
 
-in-done-keeps : (v₀ : Bool) (N : List ℕ → Bool → Type 0) (k : Kind) (status : Bool) (x : Request) (d : InDepacketiser) (l m buf : List ℕ) → KeepsOf l x v₀ N (inDone k status x d m buf)
-in-done-keeps v₀ N (control c) true x d l m buf = refl
-in-done-keeps v₀ N (control c) false x d l m buf = (refl, refl)
-in-done-keeps v₀ N (bulk b) status x d l m buf = refl
+in-done-keeps : (v₀ : Bool) (N : List ℕ → Bool → Type 0) (k : Kind) (status : Bool) (x : Request) (d : InDepacketiser) (l m buf : List ℕ) → x .kind ≡ k → KeepsOf l x v₀ N (inDone k status x d m buf)
+in-done-keeps v₀ N (control c) true x d l m buf e = (refl, none-out (x .kind))
+in-done-keeps v₀ N (control c) false x d l m buf e = (refl, refl)
+in-done-keeps v₀ N (bulk b) status x d l m buf e = (refl, subst (λ (k : Kind). NoToggle k (flipped (b .toggle) (d .parity))) (sym e) tt)
 
 in-complete-keeps : (v₀ : Bool) (x : Request) (st : InStage) (w : ℕ) (buf m : List ℕ) → KeepsOf buf x v₀ (Held (x .kind) st w buf m) (inComplete x st w buf m)
 unfolding inComplete
@@ -131,7 +140,7 @@ in-complete-keeps v₀ x st w buf m = go (g .long) refl
 
     second : g .long ≡ false → (b : Bool) → h .long ≡ b → KeepsOf buf x v₀ (Held (x .kind) st w buf m) (inSecondDone b h x (st .status) m)
     second f true e = let z = long-stays w (g .packets) (g .inflight) (g .buffer) m e in inr ((inr (f, e), z .0, ap (toggleOut (x .kind)) (z .1)), refl)
-    second f false e = in-done-keeps v₀ (Held (x .kind) st w buf m) (x .kind) (st .status) x (h .packets) buf m (h .buffer)
+    second f false e = in-done-keeps v₀ (Held (x .kind) st w buf m) (x .kind) (st .status) x (h .packets) buf m (h .buffer) refl
 
     go : (b : Bool) → g .long ≡ b → KeepsOf buf x v₀ (Held (x .kind) st w buf m) (inFirstDone b g w x (st .status) m)
     go true e = inr ((inl e, refl, refl), refl)
@@ -197,13 +206,13 @@ setup-keeps N phaseOut true x n buf m = inl (refl, refl, refl)
 setup-keeps N phaseOut false x n buf m = (refl, refl)
 setup-keeps N phaseNone short x n buf m = (refl, refl)
 
-out-done-keeps : (v₀ : Bool) (N : List ℕ → Bool → Type 0) (k : Kind) (x : Request) (st : OutStage) (parity : Bool) (l m buf : List ℕ) → KeepsOf l x v₀ N (outDone k x st parity m buf)
-out-done-keeps v₀ N (control c) x st parity l m buf = go (st .status)
+out-done-keeps : (v₀ : Bool) (N : List ℕ → Bool → Type 0) (k : Kind) (x : Request) (st : OutStage) (parity : Bool) (l m buf : List ℕ) → x .kind ≡ k → KeepsOf l x v₀ N (outDone k x st parity m buf)
+out-done-keeps v₀ N (control c) x st parity l m buf e = go (st .status)
   where
     go : (b : Bool) → KeepsOf l x v₀ N (outControlDone b x (st .received) m buf)
-    go true = refl
+    go true = (refl, none-out (x .kind))
     go false = (refl, refl)
-out-done-keeps v₀ N (bulk b) x st parity l m buf = refl
+out-done-keeps v₀ N (bulk b) x st parity l m buf e = (refl, subst (λ (k : Kind). NoToggle k (flipped (b .toggle) parity)) (sym e) tt)
 
 -- The toggle of desk rule 2 where no packet is retired by the step.
 abbrev pub parityToggle : Request → Stage → Bool
@@ -216,7 +225,7 @@ complete-keeps x (inStage st) w buf m =
     in-keeping x (parityToggle x (inStage st)) (x .kind) (st .status) st w buf m (inStep Complete x st w (lent (st .status) buf) m) (in-complete-keeps (parityToggle x (inStage st)) x st w (lent (st .status) buf) m)
 complete-keeps x (outStage st) w buf m =
     out-keeping x (parityToggle x (outStage st)) (st .status) buf (outStep Complete x st w (lent (st .status) buf) m)
-    (out-done-keeps (parityToggle x (outStage st)) Never (x .kind) x st (outRetireTwo w (st .retire) (st .inflight) .parity) (lent (st .status) buf) m (lent (st .status) buf))
+    (out-done-keeps (parityToggle x (outStage st)) Never (x .kind) x st (outRetireTwo w (st .retire) (st .inflight) .parity) (lent (st .status) buf) m (lent (st .status) buf) refl)
 
 error-keeps : (e : UsbError) (x : Request) (st : Stage) (w : ℕ) (buf m : List ℕ) → eqb (errorNumber e) 9 ≡ false → KeepsOf buf x (parityToggle x st) (Nine (x .kind) st w buf m) (stageStep (Failed e) x st w buf m)
 unfolding setupStep inStep outStep

@@ -34,7 +34,8 @@ use Rattle.transfers.specs.declared.driver.DeskRule.the-variants.{One, Two}
 use Rattle.transfers.specs.declared.driver.Request.{Request}
 use Rattle.transfers.specs.declared.driver.Kind.{Kind}
 use Rattle.transfers.specs.declared.driver.Kind.the-variants.{Control as control, Bulk as bulkKind}
-use Rattle.transfers.specs.declared.driver.Stage.the-variants.{In as inStage, Out as outStage}
+use Rattle.transfers.specs.declared.driver.Stage.{Stage}
+use Rattle.transfers.specs.declared.driver.Stage.the-variants.{Setup as setupStage, In as inStage, Out as outStage}
 use Rattle.transfers.specs.declared.driver.InStage.{InStage}
 use Rattle.transfers.specs.declared.driver.OutStage.{OutStage}
 use Rattle.transfers.specs.Refusal.{numberOf}
@@ -62,7 +63,7 @@ use Rattle.rules.proofs.Retired.{no, slot-more}
 use Rattle.rules.proofs.InStage.{not-done, waiting-not, refused-not, by-poll, starts-armed, starts as starts-in}
 use Rattle.rules.proofs.Arms.{Standing, arm-two}
 use Rattle.rules.proofs.Steps.{absurd-done}
-use Rattle.rules.proofs.KeepsBytes.{StaysWith, Keeps, KeepsOf, firstOne, secondOne, Long, Held, HeldBy, Nine, parityToggle, acts-keeps, by-busy, by-idle, same-long}
+use Rattle.rules.proofs.KeepsBytes.{StaysWith, NoToggle, Keeps, KeepsOf, firstOne, secondOne, Long, Held, HeldBy, Nine, parityToggle, acts-keeps, by-busy, by-idle, same-long}
 use Rattle.rules.proofs.Sends.{At, Comes, fails as failsOut, goes as goesOut, finishes as finishesOut, polled-comes, starts as starts-out, same-full, same-flight, flips-slot}
 use Rattle.rules.proofs.HandsBack.{Fair, FairOf, acts-fair, same-toggle}
 
@@ -378,7 +379,7 @@ in-told rule b packets s t y filling buf m log h =
 
         ends : (count : ℕ) → o .answer ≡ Done count → (o .moved ≡ o .toggle) × (o .toggle ≡ flipTimes b (doneTwo In w s .retired))
         ends count q =
-            (subst (λ (a : StepAnswer). Keeps buf x (parityToggle x (inStage (h .st))) (Nine (x .kind) (inStage (h .st)) w buf m) a (o .buffer) (o .toggle) (o .moved) (o .next)) q keeps, by comes)
+            (subst (λ (a : StepAnswer). Keeps buf x (parityToggle x (inStage (h .st))) (Nine (x .kind) (inStage (h .st)) w buf m) a (o .buffer) (o .toggle) (o .moved) (o .next)) q keeps .0, by comes)
           where
             by : InComes (h .a) (h .e) (h .p) (h .k) b (h .n) (doneTwo In w s) (talliedBy (quiet y) In (slots (h .a) (h .e) (h .p) (h .k) b (h .n)) w s) o → o .toggle ≡ flipTimes b (doneTwo In w s .retired)
             by (fails f g) = absurd-done (o .answer) count g q
@@ -478,7 +479,7 @@ out-told rule b packets s t y filling buf m log h =
 
         ends : (count : ℕ) → o .answer ≡ Done count → (o .moved ≡ o .toggle) × (o .toggle ≡ flipTimes b (doneTwo Out w s .retired))
         ends count q =
-            (subst (λ (a : StepAnswer). Keeps buf x (parityToggle x (outStage (h .st))) (Nine (x .kind) (outStage (h .st)) w buf m) a (o .buffer) (o .toggle) (o .moved) (o .next)) q keeps, by comes)
+            (subst (λ (a : StepAnswer). Keeps buf x (parityToggle x (outStage (h .st))) (Nine (x .kind) (outStage (h .st)) w buf m) a (o .buffer) (o .toggle) (o .moved) (o .next)) q keeps .0, by comes)
           where
             by : Comes (h .a) (h .e) (h .p) (h .k) b (h .first) (endsStage y) (sentBy true (quiet y) (complete y) packetsOut w s) o → o .toggle ≡ flipTimes b (doneTwo Out w s .retired)
             by (failsOut c f g) = absurd-done (o .answer) count g q
@@ -500,16 +501,60 @@ stays-none : (x : Request) (t : Transfer) → NotBulkKind (x .kind) → StaysWit
 stays-none x Idle h s = tt
 stays-none x (Busy r) h s = subst (λ (z : Request). NotBulkKind (z .kind)) (sym s) h
 
+none-in : (k : Kind) → NotBulkKind k → toggleIn k ≡ false
+none-in (control c) h = refl
+none-in (bulkKind b) h = absurd h
+
+none-out : (k : Kind) (parity : Bool) → NotBulkKind k → toggleOut k parity ≡ false
+none-out (control c) parity h = refl
+none-out (bulkKind b) parity h = absurd h
+
+none-done : (k : Kind) (t : Bool) → NotBulkKind k → NoToggle k t → t ≡ false
+none-done (control c) t h e = e
+none-done (bulkKind b) t h e = absurd h
+
+none-nine : (k : Kind) (st : Stage) (w : ℕ) (buf m b : List ℕ) (v : Bool) → NotBulkKind k → Nine k st w buf m b v → v ≡ false
+none-nine k setupStage w buf m b v h z = absurd z
+none-nine k (outStage st) w buf m b v h z = absurd z
+none-nine k (inStage st) w buf m b v h z = by (st .status) z
+  where
+    by : (s : Bool) → HeldBy k s st w buf m b v → v ≡ false
+    by true z = z .2 ∙ none-out k (firstOne st w [] m .packets .parity) h
+    by false z = z .2 ∙ none-out k (firstOne st w buf m .packets .parity) h
+
 none-told : (rule : DeskRule) (t : Transfer) (y : Sample) (filling : Bool) (buf m log : List ℕ) → NotBulk t → Told rule none y (stepOf filling t y buf m log)
-none-told rule Idle y filling buf m log h = by-idle (Told rule none y) filling y buf m log (tt, tt) (tt, tt)
+none-told rule Idle y filling buf m log h = by-idle (Told rule none y) filling y buf m log (handed rule false false false refl refl, tt) (handed rule false false false refl refl, tt)
 none-told rule (Busy r) y filling buf m log h =
-    by-busy (Told rule none y) filling r y buf m log (tt, h) (tt, h) (λ f g l. (tt, over (o .answer) (acts-fair x (r .stage) y buf m) (acts-keeps x (r .stage) y buf m)))
+    by-busy (Told rule none y) filling r y buf m log (held-out, h) (held-out, h)
+    (λ f g l.
+    let fair = acts-fair x (r .stage) y buf m in
+    let keeps = acts-keeps x (r .stage) y buf m in
+    (handed rule (o .toggle) (o .moved) false (first (o .answer) fair keeps) (second (o .answer) fair keeps), over (o .answer) fair keeps))
   where
     x : Request
     x = r .request
 
     o : Outcome
     o = acts x (r .stage) y buf m
+
+    came : toggleIn (x .kind) ≡ false
+    came = none-in (x .kind) h
+
+    held-out : handedOut rule (toggleIn (x .kind)) (toggleIn (x .kind)) ≡ false
+    held-out = handed rule (toggleIn (x .kind)) (toggleIn (x .kind)) false came came
+
+    first : (w : StepAnswer) → Fair (kindToggle (x .kind)) w (o .toggle) (o .next)
+        → Keeps buf x (parityToggle x (r .stage)) (Nine (x .kind) (r .stage) (y .buffers) buf m) w (o .buffer) (o .toggle) (o .moved) (o .next) → o .toggle ≡ false
+    first (Waiting again) f k = f .0 ∙ sym (same-toggle (x .kind)) ∙ came
+    first (Done count) f k = none-done (x .kind) (o .toggle) h (k .1)
+    first (Refused why) f k = f .0 ∙ sym (same-toggle (x .kind)) ∙ came
+
+    second : (w : StepAnswer) → Fair (kindToggle (x .kind)) w (o .toggle) (o .next)
+        → Keeps buf x (parityToggle x (r .stage)) (Nine (x .kind) (r .stage) (y .buffers) buf m) w (o .buffer) (o .toggle) (o .moved) (o .next) → o .moved ≡ false
+    second (Waiting again) f k = k .0 ∙ first (Waiting again) f k
+    second (Done count) f k = k .0 ∙ first (Done count) f k
+    second (Refused why) f (inl z) = z .1 ∙ none-out (x .kind) (stageParity (r .stage)) h
+    second (Refused why) f (inr z) = none-nine (x .kind) (r .stage) (y .buffers) buf m (o .buffer) (o .moved) h (z .0)
 
     over : (w : StepAnswer) → Fair (kindToggle (x .kind)) w (o .toggle) (o .next)
         → Keeps buf x (parityToggle x (r .stage)) (Nine (x .kind) (r .stage) (y .buffers) buf m) w (o .buffer) (o .toggle) (o .moved) (o .next) → NotBulk (o .next)
@@ -538,12 +583,18 @@ bulk-dropped rule u r parity false h e = (handed rule (u .toggle) (u .toggle) (u
 
 none-dropped : (rule : DeskRule) (t : Transfer) → NotBulk t → Dropped rule none (cancelOf t)
 unfolding cancelOf
-none-dropped rule Idle h = (tt, tt)
+none-dropped rule Idle h = (handed rule false false false refl refl, tt)
 none-dropped rule (Busy r) h = by (eitherServes r)
   where
-    by : (v : Bool) → Dropped rule none (cancelIf v (Busy r) (toggleIn (r .request .kind)) (toggleOut (r .request .kind) (stageParity (r .stage))))
-    by true = (tt, tt)
-    by false = (tt, h)
+    t : Bool
+    t = toggleIn (r .request .kind)
+
+    came : t ≡ false
+    came = none-in (r .request .kind) h
+
+    by : (v : Bool) → Dropped rule none (cancelIf v (Busy r) t (toggleOut (r .request .kind) (stageParity (r .stage))))
+    by true = (handed rule t (toggleOut (r .request .kind) (stageParity (r .stage))) false came (none-out (r .request .kind) (stageParity (r .stage)) h), tt)
+    by false = (handed rule t t false came came, h)
 
 in-dropped : (rule : DeskRule) (b : Bool) (packets : ℕ) (s : SentTally) (t : Transfer) → InHolds b packets s t → Dropped rule (bulk (record { direction = In; toggle = b; packets = packets; tally = s })) (cancelOf t)
 unfolding cancelOf

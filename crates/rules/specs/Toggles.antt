@@ -108,16 +108,16 @@ retiredBefore n u y =
     let r = u .tally .retired in
     cond (eqb n 9 && not (ltb 64 (readBufferControl (y .buffers) (slotOf r) .LENGTH))) (r + 1) r
 
--- With a step of a bulk transfer; a control has no toggle.
+-- With a step, by its answer; a control transfer has no toggle, and false goes out.
 abbrev pub StepToggle : DeskRule → UnderWay → Sample → StepAnswer → Bool → Type 0
-StepToggle rule none y a out = Unit {0}
+StepToggle rule none y a out = out ≡ false
 StepToggle rule (bulk u) y (Waiting again) out = out ≡ u .toggle
 StepToggle rule (bulk u) y (Done count) out = out ≡ flipTimes (u .toggle) (doneTwo (u .direction) (y .buffers) (u .tally) .retired)
 StepToggle rule (bulk u) y (Refused why) out = out ≡ cond (endsTransfer (numberOf why)) (failing rule (u .toggle) (retiredBefore (numberOf why) u y)) (u .toggle)
 
 -- With a cancel.
 abbrev pub CancelToggle : DeskRule → UnderWay → CancelAnswer → Bool → Type 0
-CancelToggle rule none a out = Unit {0}
+CancelToggle rule none a out = out ≡ false
 CancelToggle rule (bulk u) Cancelled out = out ≡ failing rule (u .toggle) (u .tally .retired)
 CancelToggle rule (bulk u) (CancelRefused why) out = out ≡ u .toggle
 

@@ -97,7 +97,9 @@ impl<W: Write> Generator<W> {
             1 => 1 << self.rng.below(11),
             2 => self.rng.bits() & 0x807,
             3 => self.rng.bits(),
-            _ => self.rng.pick(&[0x8, 0x10, 0x18, 0x20, 0x40, 0x80, 0x100, 0x200, 0x400, 0x7f8]),
+            _ => self.rng.pick(&[
+                0x8, 0x10, 0x18, 0x20, 0x40, 0x80, 0x100, 0x200, 0x400, 0x7f8,
+            ]),
         };
         let buffer_control = self.slot(under_way.size) | self.slot(under_way.size) << 16;
         self.step(under_way.way, sie_status, intr, buffer_control)
