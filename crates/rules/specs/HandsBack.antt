@@ -130,7 +130,7 @@ abbrev pub cameWith : Transfer → Bool
 cameWith Idle = false
 cameWith (Busy r) = kindToggle (r .request .kind)
 
--- "The bulk toggle flips .. only when the transfer ends in done."
+-- "The bulk toggle flips .. only when the transfer ends in done.": desk rule 1's toggle. What rule 2 hands out is said by `Toggles`.
 pub record KeepsToggle : Type 0 where
   -- A begin that is accepted keeps the toggle handed in,
   pub beginIn : (t : Transfer) (a e p : ℕ) (k : TransferType) (b : Bool) (buf m log : List ℕ)

@@ -36,6 +36,9 @@ impl<W: Write> Vectors<W> {
             for script in row.scripts {
                 self.case(&format!("difference {}", row.number))?;
                 script.split(" / ").try_for_each(|line| self.line(line))?;
+                if script.starts_with("rule") {
+                    self.line("rule 1")?;
+                }
             }
         }
         Ok(())
