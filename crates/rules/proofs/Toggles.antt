@@ -63,9 +63,9 @@ use Rattle.rules.proofs.Retired.{no, slot-more}
 use Rattle.rules.proofs.InStage.{not-done, waiting-not, refused-not, by-poll, starts-armed, starts as starts-in}
 use Rattle.rules.proofs.Arms.{Standing, arm-two}
 use Rattle.rules.proofs.Steps.{absurd-done}
-use Rattle.rules.proofs.KeepsBytes.{StaysWith, NoToggle, Keeps, KeepsOf, firstOne, secondOne, Long, Held, HeldBy, Nine, parityToggle, acts-keeps, by-busy, by-idle, same-long}
+use Rattle.rules.proofs.KeepsBytes.{StaysWith, NoToggle, Keeps, firstOne, secondOne, Long, HeldBy, Nine, parityToggle, acts-keeps, by-busy, by-idle, same-long}
 use Rattle.rules.proofs.Sends.{At, Comes, fails as failsOut, goes as goesOut, finishes as finishesOut, polled-comes, starts as starts-out, same-full, same-flight, flips-slot}
-use Rattle.rules.proofs.HandsBack.{Fair, FairOf, acts-fair, same-toggle}
+use Rattle.rules.proofs.HandsBack.{Fair, acts-fair, same-toggle}
 
 -- ---- receiving: one slot
 
@@ -265,20 +265,31 @@ handed-failing Two t v b n e f = f
 abbrev Told : DeskRule → UnderWay → Sample → Outcome → Type 0
 Told rule u y o = StepToggle rule u y (o .answer) (handedOut rule (o .toggle) (o .moved)) × Holds (steppedOn u y (o .answer)) (o .next)
 
--- A bulk transfer's step that acts, by its answer.
-acted : (rule : DeskRule) (u : Bulk) (y : Sample) (x : Request) (o : Outcome) → kindToggle (x .kind) ≡ u .toggle → FairOf x o
-    → ((again : Bool) → o .answer ≡ Waiting again → (o .moved ≡ o .toggle) × Holds (bulk (movedOn u y)) (o .next))
-    → ((count : ℕ) → o .answer ≡ Done count → (o .moved ≡ o .toggle) × (o .toggle ≡ flipTimes (u .toggle) (doneTwo (u .direction) (y .buffers) (u .tally) .retired)))
-    → ((why : Refusal) → o .answer ≡ Refused why → o .moved ≡ flipTimes (u .toggle) (retiredBefore (numberOf why) u y))
+-- A bulk transfer's step that acts, by its answer, from: how it goes on, what done hands out, and rule 2's toggle with the packets of earlier steps and at 9.
+acts-told : (rule : DeskRule) (u : Bulk) (x : Request) (st : Stage) (y : Sample) (buf m : List ℕ) → let o = acts x st y buf m in kindToggle (x .kind) ≡ u .toggle
+    → (StaysWith x (o .next) → Holds (bulk (movedOn u y)) (o .next))
+    → ((count : ℕ) → o .answer ≡ Done count → o .toggle ≡ flipTimes (u .toggle) (doneTwo (u .direction) (y .buffers) (u .tally) .retired))
+    → parityToggle x st ≡ flipTimes (u .toggle) (u .tally .retired)
+    → ((n : ℕ) → Nine (x .kind) st (y .buffers) buf m (o .buffer) (o .moved) → eqb n 9 ≡ true → o .moved ≡ flipTimes (u .toggle) (retiredBefore n u y))
     → Told rule (bulk u) y o
-acted rule u y x o kd fair waits ends refuses = by (o .answer) refl fair
+acts-told rule u x st y buf m kd goes-on ends earlier nine = by (o .answer) refl (acts-fair x st y buf m) (acts-keeps x st y buf m)
   where
-    by : (w : StepAnswer) → o .answer ≡ w → Fair (kindToggle (x .kind)) w (o .toggle) (o .next)
-        → StepToggle rule (bulk u) y w (handedOut rule (o .toggle) (o .moved)) × Holds (steppedOn (bulk u) y w) (o .next)
-    by (Waiting again) q f = let z = waits again q in (handed rule (o .toggle) (o .moved) (u .toggle) (f .0 ∙ kd) (z .0 ∙ f .0 ∙ kd), z .1)
-    by (Done count) q f = let z = ends count q in (handed rule (o .toggle) (o .moved) _ (z .1) (z .0 ∙ z .1), subst NotBulk (sym f) tt)
-    by (Refused why) q f =
-        let e = handed-failing rule (o .toggle) (o .moved) (u .toggle) (retiredBefore (numberOf why) u y) (f .0 ∙ kd) (refuses why q) in
+    o : Outcome
+    o = acts x st y buf m
+
+    N : List ℕ → Bool → Type 0
+    N = Nine (x .kind) st (y .buffers) buf m
+
+    refused : (n : ℕ) → ((o .buffer ≡ buf) × (o .moved ≡ parityToggle x st) × (eqb n 9 ≡ false)) ⊎ (N (o .buffer) (o .moved) × (eqb n 9 ≡ true)) → o .moved ≡ flipTimes (u .toggle) (retiredBefore n u y)
+    refused n (inl z) = rw (z .2) (z .1 ∙ earlier)
+    refused n (inr z) = nine n (z .0) (z .1)
+
+    by : (a : StepAnswer) → o .answer ≡ a → Fair (kindToggle (x .kind)) a (o .toggle) (o .next) → Keeps buf x (parityToggle x st) N a (o .buffer) (o .toggle) (o .moved) (o .next)
+        → StepToggle rule (bulk u) y a (handedOut rule (o .toggle) (o .moved)) × Holds (steppedOn (bulk u) y a) (o .next)
+    by (Waiting again) q f k = (handed rule (o .toggle) (o .moved) (u .toggle) (f .0 ∙ kd) (k .0 ∙ f .0 ∙ kd), goes-on (k .1))
+    by (Done count) q f k = (handed rule (o .toggle) (o .moved) _ (ends count q) (k .0 ∙ ends count q), subst NotBulk (sym f) tt)
+    by (Refused why) q f k =
+        let e = handed-failing rule (o .toggle) (o .moved) (u .toggle) (retiredBefore (numberOf why) u y) (f .0 ∙ kd) (refused (numberOf why) k) in
         let over : NotBulk (o .next) = subst NotBulk (sym (f .1)) tt in
         rw (f .2) (e, over)
 
@@ -316,14 +327,12 @@ flip-more b r = ap (flipped b) (sym (slot-more r)) ∙ flips-slot b (r + 1)
 in-told : (rule : DeskRule) (b : Bool) (packets : ℕ) (s : SentTally) (t : Transfer) (y : Sample) (filling : Bool) (buf m log : List ℕ) → InHolds b packets s t
     → Told rule (bulk (record { direction = In; toggle = b; packets = packets; tally = s })) y (stepOf filling t y buf m log)
 in-told rule b packets s t y filling buf m log h =
-    subst (λ (t : Transfer). Told rule u y (stepOf filling t y buf m log)) (sym (h .is))
-    (by-busy (Told rule u y) filling r y buf m log (held-refused rule v y r LentMemory m buf refl refl here) (held-refused rule v y r State m buf refl refl here) (λ f g l. acts-told))
+    subst (λ (t : Transfer). Told rule (bulk u) y (stepOf filling t y buf m log)) (sym (h .is))
+    (by-busy (Told rule (bulk u) y) filling r y buf m log (held-refused rule u y r LentMemory m buf refl refl here) (held-refused rule u y r State m buf refl refl here)
+    (λ f g l. acts-told rule u x (inStage (h .st)) y buf m refl (goes-on comes) (ends comes) (ap (flipped b) (h .at .turn) ∙ flips-slot b (s .retired)) nine))
   where
-    v : Bulk
-    v = record { direction = In; toggle = b; packets = packets; tally = s }
-
-    u : UnderWay
-    u = bulk v
+    u : Bulk
+    u = record { direction = In; toggle = b; packets = packets; tally = s }
 
     x : Request
     x = inX (h .a) (h .e) (h .p) (h .k) b (h .n)
@@ -340,60 +349,41 @@ in-told rule b packets s t y filling buf m log h =
     w : ℕ
     w = y .buffers
 
-    keeps : KeepsOf buf x (parityToggle x (inStage (h .st))) (Nine (x .kind) (inStage (h .st)) w buf m) o
-    keeps = acts-keeps x (inStage (h .st)) y buf m
+    ComesTo : Type 0
+    ComesTo = InComes (h .a) (h .e) (h .p) (h .k) b (h .n) (doneTwo In w s) (talliedBy (quiet y) In (slots (h .a) (h .e) (h .p) (h .k) b (h .n)) w s) o
 
-    comes : InComes (h .a) (h .e) (h .p) (h .k) b (h .n) (doneTwo In w s) (talliedBy (quiet y) In (slots (h .a) (h .e) (h .p) (h .k) b (h .n)) w s) o
+    comes : ComesTo
     comes = in-comes (h .a) (h .e) (h .p) (h .k) b (h .n) (h .st) s (h .at) y buf m
 
-    nine : (why : Refusal) → Held (x .kind) (h .st) w buf m (o .buffer) (o .moved) → eqb (numberOf why) 9 ≡ true → o .moved ≡ flipTimes b (retiredBefore (numberOf why) v y)
-    nine why z f = rw f (z .2 ∙ ap (flipped b) (long-parity (h .st) w buf m (z .0)) ∙ by (ltb 64 (lengthIn w (h .st .retire))) (ap (λ (c : Bool). ltb 64 (lengthIn w c)) (h .at .turn) ∙ ap (ltb 64) (same-long w (slotOf (s .retired)))))
+    goes-on : ComesTo → StaysWith x (o .next) → Holds (bulk (movedOn u y)) (o .next)
+    goes-on (fails f g) z = absurd (subst (StaysWith x) f z)
+    goes-on (finishes f g) z = absurd (subst (StaysWith x) f z)
+    goes-on (goes st f at g) z = record {
+      a = h .a;
+      e = h .e;
+      p = h .p;
+      k = h .k;
+      n = h .n;
+      st = st;
+      is = f;
+      many = h .many;
+      at = subst (λ (j : ℕ). InAt (h .a) (h .e) (h .p) (h .k) b (h .n) st (talliedBy (quiet y) In j w s)) (sym (h .many)) at;
+    }
+
+    ends : ComesTo → (count : ℕ) → o .answer ≡ Done count → o .toggle ≡ flipTimes b (doneTwo In w s .retired)
+    ends (fails f g) count q = absurd-done (o .answer) count g q
+    ends (goes st f at g) count q = absurd-done (o .answer) count g q
+    ends (finishes f g) count q = g
+
+    nine : (n : ℕ) → Nine (x .kind) (inStage (h .st)) w buf m (o .buffer) (o .moved) → eqb n 9 ≡ true → o .moved ≡ flipTimes b (retiredBefore n u y)
+    nine n held f =
+        let z = subst (λ (c : Bool). HeldBy (x .kind) c (h .st) w buf m (o .buffer) (o .moved)) (h .at .data-stage) held in
+        rw f (z .2 ∙ ap (flipped b) (long-parity (h .st) w buf m (z .0)) ∙ by (ltb 64 (lengthIn w (h .st .retire))) (ap (λ (c : Bool). ltb 64 (lengthIn w c)) (h .at .turn) ∙ ap (ltb 64) (same-long w (slotOf (s .retired)))))
       where
         by : (l : Bool) → l ≡ ltb 64 (readBufferControl w (slotOf (s .retired)) .LENGTH)
             → flipped b (cond l (h .st .retire) (not (h .st .retire))) ≡ flipTimes b (cond (not (ltb 64 (readBufferControl w (slotOf (s .retired)) .LENGTH))) (s .retired + 1) (s .retired))
         by true e = rw (sym e) (ap (flipped b) (h .at .turn) ∙ flips-slot b (s .retired))
         by false e = rw (sym e) (ap (λ (c : Bool). flipped b (not c)) (h .at .turn) ∙ flip-more b (s .retired))
-
-    acts-told : Told rule u y o
-    acts-told = acted rule v y x o refl (acts-fair x (inStage (h .st)) y buf m) waits ends refused
-      where
-        waits : (again : Bool) → o .answer ≡ Waiting again → (o .moved ≡ o .toggle) × Holds (bulk (movedOn v y)) (o .next)
-        waits again q =
-            let z : (o .moved ≡ o .toggle) × StaysWith x (o .next) = subst (λ (a : StepAnswer). Keeps buf x (parityToggle x (inStage (h .st))) (Nine (x .kind) (inStage (h .st)) w buf m) a (o .buffer) (o .toggle) (o .moved) (o .next)) q keeps in
-            (z .0, on comes (z .1))
-          where
-            on : InComes (h .a) (h .e) (h .p) (h .k) b (h .n) (doneTwo In w s) (talliedBy (quiet y) In (slots (h .a) (h .e) (h .p) (h .k) b (h .n)) w s) o → StaysWith x (o .next) → Holds (bulk (movedOn v y)) (o .next)
-            on (fails f g) z = absurd (subst (StaysWith x) f z)
-            on (finishes f g) z = absurd (subst (StaysWith x) f z)
-            on (goes st f at g) z = record {
-              a = h .a;
-              e = h .e;
-              p = h .p;
-              k = h .k;
-              n = h .n;
-              st = st;
-              is = f;
-              many = h .many;
-              at = subst (λ (j : ℕ). InAt (h .a) (h .e) (h .p) (h .k) b (h .n) st (talliedBy (quiet y) In j w s)) (sym (h .many)) at;
-            }
-
-        ends : (count : ℕ) → o .answer ≡ Done count → (o .moved ≡ o .toggle) × (o .toggle ≡ flipTimes b (doneTwo In w s .retired))
-        ends count q =
-            (subst (λ (a : StepAnswer). Keeps buf x (parityToggle x (inStage (h .st))) (Nine (x .kind) (inStage (h .st)) w buf m) a (o .buffer) (o .toggle) (o .moved) (o .next)) q keeps .0, by comes)
-          where
-            by : InComes (h .a) (h .e) (h .p) (h .k) b (h .n) (doneTwo In w s) (talliedBy (quiet y) In (slots (h .a) (h .e) (h .p) (h .k) b (h .n)) w s) o → o .toggle ≡ flipTimes b (doneTwo In w s .retired)
-            by (fails f g) = absurd-done (o .answer) count g q
-            by (goes st f at g) = absurd-done (o .answer) count g q
-            by (finishes f g) = g
-
-        refused : (why : Refusal) → o .answer ≡ Refused why → o .moved ≡ flipTimes b (retiredBefore (numberOf why) v y)
-        refused why q =
-            by (subst (λ (a : StepAnswer). Keeps buf x (parityToggle x (inStage (h .st))) (Nine (x .kind) (inStage (h .st)) w buf m) a (o .buffer) (o .toggle) (o .moved) (o .next)) q keeps)
-          where
-            by : ((o .buffer ≡ buf) × (o .moved ≡ parityToggle x (inStage (h .st))) × (eqb (numberOf why) 9 ≡ false)) ⊎ (Nine (x .kind) (inStage (h .st)) w buf m (o .buffer) (o .moved) × (eqb (numberOf why) 9 ≡ true))
-                → o .moved ≡ flipTimes b (retiredBefore (numberOf why) v y)
-            by (inl z) = rw (z .2) (z .1 ∙ ap (flipped b) (h .at .turn) ∙ flips-slot b (s .retired))
-            by (inr z) = nine why (subst (λ (c : Bool). HeldBy (x .kind) c (h .st) w buf m (o .buffer) (o .moved)) (h .at .data-stage) (z .0)) (z .1)
 
 -- ---- a step of a bulk OUT
 
@@ -420,14 +410,12 @@ out-comes a e p k b first st s h y buf m log = polled-comes a e p k b first st s
 out-told : (rule : DeskRule) (b : Bool) (packets : ℕ) (s : SentTally) (t : Transfer) (y : Sample) (filling : Bool) (buf m log : List ℕ) → OutHolds b packets s t
     → Told rule (bulk (record { direction = Out; toggle = b; packets = packets; tally = s })) y (stepOf filling t y buf m log)
 out-told rule b packets s t y filling buf m log h =
-    subst (λ (t : Transfer). Told rule u y (stepOf filling t y buf m log)) (sym (h .is))
-    (by-busy (Told rule u y) filling r y buf m log (held-refused rule v y r LentMemory m buf refl refl here) (held-refused rule v y r State m buf refl refl here) (λ f g l. acts-told))
+    subst (λ (t : Transfer). Told rule (bulk u) y (stepOf filling t y buf m log)) (sym (h .is))
+    (by-busy (Told rule (bulk u) y) filling r y buf m log (held-refused rule u y r LentMemory m buf refl refl here) (held-refused rule u y r State m buf refl refl here)
+    (λ f g l. acts-told rule u x (outStage (h .st)) y buf m refl (goes-on comes) (ends comes) (ap (flipped b) (h .at .stands .turn) ∙ flips-slot b (s .retired)) (λ n z. absurd z)))
   where
-    v : Bulk
-    v = record { direction = Out; toggle = b; packets = packets; tally = s }
-
-    u : UnderWay
-    u = bulk v
+    u : Bulk
+    u = record { direction = Out; toggle = b; packets = packets; tally = s }
 
     x : Request
     x = bulkRequest Out (h .a) (h .e) (h .p) b (length (h .first))
@@ -447,53 +435,32 @@ out-told rule b packets s t y filling buf m log h =
     packetsOut : ℕ
     packetsOut = length (outCut (h .k) (h .p) b (h .first))
 
-    keeps : KeepsOf buf x (parityToggle x (outStage (h .st))) (Nine (x .kind) (outStage (h .st)) w buf m) o
-    keeps = acts-keeps x (outStage (h .st)) y buf m
+    ComesTo : Type 0
+    ComesTo = Comes (h .a) (h .e) (h .p) (h .k) b (h .first) (endsStage y) (sentBy true (quiet y) (complete y) packetsOut w s) o
 
-    comes : Comes (h .a) (h .e) (h .p) (h .k) b (h .first) (endsStage y) (sentBy true (quiet y) (complete y) packetsOut w s) o
+    comes : ComesTo
     comes = out-comes (h .a) (h .e) (h .p) (h .k) b (h .first) (h .st) s (h .at) y buf m log
 
-    acts-told : Told rule u y o
-    acts-told = acted rule v y x o refl (acts-fair x (outStage (h .st)) y buf m) waits ends refused
-      where
-        waits : (again : Bool) → o .answer ≡ Waiting again → (o .moved ≡ o .toggle) × Holds (bulk (movedOn v y)) (o .next)
-        waits again q =
-            let z : (o .moved ≡ o .toggle) × StaysWith x (o .next) = subst (λ (a : StepAnswer). Keeps buf x (parityToggle x (outStage (h .st))) (Nine (x .kind) (outStage (h .st)) w buf m) a (o .buffer) (o .toggle) (o .moved) (o .next)) q keeps in
-            (z .0, on comes (z .1))
-          where
-            on : Comes (h .a) (h .e) (h .p) (h .k) b (h .first) (endsStage y) (sentBy true (quiet y) (complete y) packetsOut w s) o → StaysWith x (o .next) → Holds (bulk (movedOn v y)) (o .next)
-            on (failsOut c f g) z = absurd (subst (StaysWith x) f z)
-            on (finishesOut c f g i) z = absurd (subst (StaysWith x) f z)
-            on (goesOut c st f at g) z = record {
-              a = h .a;
-              e = h .e;
-              p = h .p;
-              k = h .k;
-              first = h .first;
-              st = st;
-              is = f;
-              many = h .many;
-              at = subst (λ (j : ℕ). At (h .a) (h .e) (h .p) (h .k) b (h .first) st (talliedBy (quiet y) Out j w s)) (sym (h .many))
-                  (subst (At (h .a) (h .e) (h .p) (h .k) b (h .first) st) (tally-on packetsOut w s (quiet y) (complete y) c) at);
-            }
+    goes-on : ComesTo → StaysWith x (o .next) → Holds (bulk (movedOn u y)) (o .next)
+    goes-on (failsOut c f g) z = absurd (subst (StaysWith x) f z)
+    goes-on (finishesOut c f g i) z = absurd (subst (StaysWith x) f z)
+    goes-on (goesOut c st f at g) z = record {
+      a = h .a;
+      e = h .e;
+      p = h .p;
+      k = h .k;
+      first = h .first;
+      st = st;
+      is = f;
+      many = h .many;
+      at = subst (λ (j : ℕ). At (h .a) (h .e) (h .p) (h .k) b (h .first) st (talliedBy (quiet y) Out j w s)) (sym (h .many))
+          (subst (At (h .a) (h .e) (h .p) (h .k) b (h .first) st) (tally-on packetsOut w s (quiet y) (complete y) c) at);
+    }
 
-        ends : (count : ℕ) → o .answer ≡ Done count → (o .moved ≡ o .toggle) × (o .toggle ≡ flipTimes b (doneTwo Out w s .retired))
-        ends count q =
-            (subst (λ (a : StepAnswer). Keeps buf x (parityToggle x (outStage (h .st))) (Nine (x .kind) (outStage (h .st)) w buf m) a (o .buffer) (o .toggle) (o .moved) (o .next)) q keeps .0, by comes)
-          where
-            by : Comes (h .a) (h .e) (h .p) (h .k) b (h .first) (endsStage y) (sentBy true (quiet y) (complete y) packetsOut w s) o → o .toggle ≡ flipTimes b (doneTwo Out w s .retired)
-            by (failsOut c f g) = absurd-done (o .answer) count g q
-            by (goesOut c st f at g) = absurd-done (o .answer) count g q
-            by (finishesOut c f g i) = i ∙ ap (λ (j : SentTally). flipTimes b (j .retired)) (tally-end packetsOut w s (quiet y) (complete y) c)
-
-        refused : (why : Refusal) → o .answer ≡ Refused why → o .moved ≡ flipTimes b (retiredBefore (numberOf why) v y)
-        refused why q =
-            by (subst (λ (a : StepAnswer). Keeps buf x (parityToggle x (outStage (h .st))) (Nine (x .kind) (outStage (h .st)) w buf m) a (o .buffer) (o .toggle) (o .moved) (o .next)) q keeps)
-          where
-            by : ((o .buffer ≡ buf) × (o .moved ≡ parityToggle x (outStage (h .st))) × (eqb (numberOf why) 9 ≡ false)) ⊎ (⊥ × (eqb (numberOf why) 9 ≡ true))
-                → o .moved ≡ flipTimes b (retiredBefore (numberOf why) v y)
-            by (inl z) = rw (z .2) (z .1 ∙ ap (flipped b) (h .at .stands .turn) ∙ flips-slot b (s .retired))
-            by (inr z) = absurd (z .0)
+    ends : ComesTo → (count : ℕ) → o .answer ≡ Done count → o .toggle ≡ flipTimes b (doneTwo Out w s .retired)
+    ends (failsOut c f g) count q = absurd-done (o .answer) count g q
+    ends (goesOut c st f at g) count q = absurd-done (o .answer) count g q
+    ends (finishesOut c f g i) count q = i ∙ ap (λ (j : SentTally). flipTimes b (j .retired)) (tally-end packetsOut w s (quiet y) (complete y) c)
 
 -- ---- a step with no bulk transfer under way
 

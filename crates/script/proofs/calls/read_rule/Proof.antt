@@ -1,7 +1,6 @@
 -- `read_rule` is `ruleOf`, by its number.
 -- Assumes nothing.
 use mathlib.Core.Path.{sym, _∙_}
-use native.Mathlib.Omega.{arith}
 use borrow.Author.Tests.{eq-eqb, ne-eqb, le-leb, lt-leb}
 use Rattle.script.specs.Lines.{ruleOf}
 use Rattle.script.proofs.calls.read_rule.Statement.{statement}
