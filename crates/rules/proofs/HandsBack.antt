@@ -67,7 +67,7 @@ use Rattle.transfers.specs.State.{controlOf, addressGood, endpointGood, sizeGoo
 use Rattle.transfers.specs.Outcome.{Outcome, toggleIn, toggleOut, waits, failed}
 use Rattle.transfers.specs.Step.{setupDone, setupStep, inReceived, inDone, inSecondDone, inFirstDone, inComplete, inSecondMoved, inFirstMoved, inRearm, inMove, inStep, outRetireTwo, outControlDone, outDone, outComplete, outMove, outStep, lent, keeping, stageStep, polls, acts}
 use Rattle.transfers.specs.Calls.{heldToggle, refuses, stepIf, mayStep, stepLent, stepOf, cancelIf, stageParity, eitherServes, cancelOf, Beginning, fieldsRefusal, beginRefusal, beginOr, isIdle, beginsControl, beginControlOf, bulkRequest, beginsBulkIn, beginBulkInOf, beginsBulkOut, beginBulkOutOf}
-use Rattle.transfers.specs.Driver.{withTransfer, handedOut, dropped}
+use Rattle.transfers.specs.Driver.{withTransfer, toggleByRule, dropped}
 use Rattle.transfers.specs.Pipes.{opening, closing, indexOpen, packetData, packetOf, pollFull, pollIf, pollingPipe, polling, withPipes}
 use Rattle.transfers.specs.Irq.{clearWrites, wakingIf, waking}
 use Rattle.transfers.specs.Detect.{statusAt, statusOf, sameStatus, detectingIf, detectingStatus, withLast, detecting}
@@ -88,7 +88,7 @@ leaves-alone = record {
   detect = λ d sie log. (refl, refl, refl, refl);
 }
 
-by-rule : (r : DeskRule) (t v : Bool) → ByRule r t v (handedOut r t v)
+by-rule : (r : DeskRule) (t v : Bool) → ByRule r t v (toggleByRule r t v)
 by-rule One t v = refl
 by-rule Two t v = refl
 

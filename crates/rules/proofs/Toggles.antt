@@ -48,11 +48,12 @@ use Rattle.transfers.specs.Memory.{lentFits}
 use Rattle.transfers.specs.State.{targetOf, addressGood, endpointGood, sizeGood}
 use Rattle.transfers.specs.Outcome.{Outcome, after, toggleIn, toggleOut, flipped, startIn, startOut}
 use Rattle.transfers.specs.Step.{inPackets, inReceived, inSecondDone, inFirstDone, inComplete, inRearm, inSecondMoved, inFirstMoved, inMove, inFound, inStep, lent, keeping, stageStep, polls, acts}
-use Rattle.transfers.specs.Calls.{refuses, stepOf, Cancelling, cancelIf, stageParity, eitherServes, cancelOf, isIdle, fieldsRefusal, beginRefusal, Beginning, beginOr, beginsControl, beginControlOf, bulkRequest, beginsBulkIn, beginBulkInOf, beginsBulkOut, beginBulkOutOf}
-use Rattle.transfers.specs.Driver.{fresh, handedOut}
+use Rattle.transfers.specs.Calls.{wellFormed, refuses, stepOf, Cancelling, cancelIf, stageParity, eitherServes, cancelOf, isIdle, fieldsRefusal, beginRefusal, Beginning, beginOr, beginsControl, beginControlOf, bulkRequest, beginsBulkIn, beginBulkInOf, beginsBulkOut, beginBulkOutOf}
+use Rattle.transfers.specs.Driver.{fresh, toggleByRule}
 use Rattle.transfers.proofs.OpenPipes.{between}
 use Rattle.transfers.proofs.Beginnings.{none-fields, bulk-good}
 use Rattle.transfers.proofs.Readiness.{both}
+use Rattle.transfers.proofs.WellFormed.{step-well, cancel-well, begin-control-well, begin-bulk-in-well, begin-bulk-out-well}
 use Rattle.record.specs.Calls.{Begin, controlBegin, bulkBegin, Call, begin, step, cancel, openPipe, closePipe, pollPipe, interrupt, detect, beginning, call}
 use Rattle.rules.specs.Fields.{readBufferControl}
 use Rattle.rules.specs.Received.{quiet, complete, endsStage, slotOf}
@@ -251,11 +252,11 @@ Holds (bulk u) t = BulkHolds (u .direction) (u .toggle) (u .packets) (u .tally) 
 
 -- ---- which of the two toggles goes out
 
-handed : (rule : DeskRule) (t v w : Bool) → t ≡ w → v ≡ w → handedOut rule t v ≡ w
+handed : (rule : DeskRule) (t v w : Bool) → t ≡ w → v ≡ w → toggleByRule rule t v ≡ w
 handed One t v w e f = e
 handed Two t v w e f = f
 
-handed-failing : (rule : DeskRule) (t v b : Bool) (n : ℕ) → t ≡ b → v ≡ flipTimes b n → handedOut rule t v ≡ failing rule b n
+handed-failing : (rule : DeskRule) (t v b : Bool) (n : ℕ) → t ≡ b → v ≡ flipTimes b n → toggleByRule rule t v ≡ failing rule b n
 handed-failing One t v b n e f = e
 handed-failing Two t v b n e f = f
 
@@ -263,7 +264,7 @@ handed-failing Two t v b n e f = f
 
 -- What it hands out, and that the state still is what the calls tell.
 abbrev Told : DeskRule → UnderWay → Sample → Outcome → Type 0
-Told rule u y o = StepToggle rule u y (o .answer) (handedOut rule (o .toggle) (o .moved)) × Holds (steppedOn u y (o .answer)) (o .next)
+Told rule u y o = StepToggle rule u y (o .answer) (toggleByRule rule (o .toggle) (o .moved)) × Holds (steppedOn u y (o .answer)) (o .next)
 
 -- A bulk transfer's step that acts, by its answer, from: how it goes on, what done hands out, and rule 2's toggle with the packets of earlier steps and at 9.
 acts-told : (rule : DeskRule) (u : Bulk) (x : Request) (st : Stage) (y : Sample) (buf m : List ℕ) → let o = acts x st y buf m in kindToggle (x .kind) ≡ u .toggle
@@ -285,7 +286,7 @@ acts-told rule u x st y buf m kd goes-on ends earlier nine = by (o .answer) refl
     refused n (inr z) = nine n (z .0) (z .1)
 
     by : (a : StepAnswer) → o .answer ≡ a → Fair (kindToggle (x .kind)) a (o .toggle) (o .next) → Keeps buf x (parityToggle x st) N a (o .buffer) (o .toggle) (o .moved) (o .next)
-        → StepToggle rule (bulk u) y a (handedOut rule (o .toggle) (o .moved)) × Holds (steppedOn (bulk u) y a) (o .next)
+        → StepToggle rule (bulk u) y a (toggleByRule rule (o .toggle) (o .moved)) × Holds (steppedOn (bulk u) y a) (o .next)
     by (Waiting again) q f k = (handed rule (o .toggle) (o .moved) (u .toggle) (f .0 ∙ kd) (k .0 ∙ f .0 ∙ kd), goes-on (k .1))
     by (Done count) q f k = (handed rule (o .toggle) (o .moved) _ (ends count q) (k .0 ∙ ends count q), subst NotBulk (sym f) tt)
     by (Refused why) q f k =
@@ -507,7 +508,7 @@ none-told rule (Busy r) y filling buf m log h =
     came : toggleIn (x .kind) ≡ false
     came = none-in (x .kind) h
 
-    held-out : handedOut rule (toggleIn (x .kind)) (toggleIn (x .kind)) ≡ false
+    held-out : toggleByRule rule (toggleIn (x .kind)) (toggleIn (x .kind)) ≡ false
     held-out = handed rule (toggleIn (x .kind)) (toggleIn (x .kind)) false came came
 
     first : (w : StepAnswer) → Fair (kindToggle (x .kind)) w (o .toggle) (o .next)
@@ -540,13 +541,13 @@ step-told rule (bulk u) t y filling buf m log h = by (u .direction) h
 -- ---- a cancel
 
 abbrev Dropped : DeskRule → UnderWay → Cancelling → Type 0
-Dropped rule u o = CancelToggle rule u (o .answer) (handedOut rule (o .toggle) (o .moved)) × Holds (tells u cancel (o .answer)) (o .next)
+Dropped rule u o = CancelToggle rule u (o .answer) (toggleByRule rule (o .toggle) (o .moved)) × Holds (tells u cancel (o .answer)) (o .next)
 
 -- Of a bulk transfer whose stage has the parity of the packets retired.
-bulk-dropped : (rule : DeskRule) (u : Bulk) (r : Run) (parity v : Bool) → Holds (bulk u) (Busy r) → flipped (u .toggle) parity ≡ flipTimes (u .toggle) (u .tally .retired)
+bulk-dropped : (rule : DeskRule) (u : Bulk) (r : Run) (parity v : Bool) → v ≡ true → Holds (bulk u) (Busy r) → flipped (u .toggle) parity ≡ flipTimes (u .toggle) (u .tally .retired)
     → Dropped rule (bulk u) (cancelIf v (Busy r) (u .toggle) (flipped (u .toggle) parity))
-bulk-dropped rule u r parity true h e = (handed-failing rule (u .toggle) (flipped (u .toggle) parity) (u .toggle) (u .tally .retired) refl e, tt)
-bulk-dropped rule u r parity false h e = (handed rule (u .toggle) (u .toggle) (u .toggle) refl refl, h)
+bulk-dropped rule u r parity true good h e = (handed-failing rule (u .toggle) (flipped (u .toggle) parity) (u .toggle) (u .tally .retired) refl e, tt)
+bulk-dropped rule u r parity false good h e = no (sym good)
 
 none-dropped : (rule : DeskRule) (t : Transfer) → NotBulk t → Dropped rule none (cancelOf t)
 unfolding cancelOf
@@ -563,31 +564,31 @@ none-dropped rule (Busy r) h = by (eitherServes r)
     by true = (handed rule t (toggleOut (r .request .kind) (stageParity (r .stage))) false came (none-out (r .request .kind) (stageParity (r .stage)) h), tt)
     by false = (handed rule t t false came came, h)
 
-in-dropped : (rule : DeskRule) (b : Bool) (packets : ℕ) (s : SentTally) (t : Transfer) → InHolds b packets s t → Dropped rule (bulk (record { direction = In; toggle = b; packets = packets; tally = s })) (cancelOf t)
+in-dropped : (rule : DeskRule) (b : Bool) (packets : ℕ) (s : SentTally) (t : Transfer) → wellFormed t ≡ true → InHolds b packets s t → Dropped rule (bulk (record { direction = In; toggle = b; packets = packets; tally = s })) (cancelOf t)
 unfolding cancelOf
-in-dropped rule b packets s t h =
+in-dropped rule b packets s t well h =
     let r : Run = record { request = inX (h .a) (h .e) (h .p) (h .k) b (h .n); stage = inStage (h .st) } in
     let v : Bulk = record { direction = In; toggle = b; packets = packets; tally = s } in
     let here : InHolds b packets s (Busy r) = record { a = h .a; e = h .e; p = h .p; k = h .k; n = h .n; st = h .st; is = refl; many = h .many; at = h .at } in
     subst (λ (t : Transfer). Dropped rule (bulk v) (cancelOf t)) (sym (h .is))
-    (bulk-dropped rule v r (h .st .retire) (eitherServes r) here (ap (flipped b) (h .at .turn) ∙ flips-slot b (s .retired)))
+    (bulk-dropped rule v r (h .st .retire) (eitherServes r) (sym (ap wellFormed (h .is)) ∙ well) here (ap (flipped b) (h .at .turn) ∙ flips-slot b (s .retired)))
 
-out-dropped : (rule : DeskRule) (b : Bool) (packets : ℕ) (s : SentTally) (t : Transfer) → OutHolds b packets s t → Dropped rule (bulk (record { direction = Out; toggle = b; packets = packets; tally = s })) (cancelOf t)
+out-dropped : (rule : DeskRule) (b : Bool) (packets : ℕ) (s : SentTally) (t : Transfer) → wellFormed t ≡ true → OutHolds b packets s t → Dropped rule (bulk (record { direction = Out; toggle = b; packets = packets; tally = s })) (cancelOf t)
 unfolding cancelOf
-out-dropped rule b packets s t h =
+out-dropped rule b packets s t well h =
     let r : Run = record { request = bulkRequest Out (h .a) (h .e) (h .p) b (length (h .first)); stage = outStage (h .st) } in
     let v : Bulk = record { direction = Out; toggle = b; packets = packets; tally = s } in
     let here : OutHolds b packets s (Busy r) = record { a = h .a; e = h .e; p = h .p; k = h .k; first = h .first; st = h .st; is = refl; many = h .many; at = h .at } in
     subst (λ (t : Transfer). Dropped rule (bulk v) (cancelOf t)) (sym (h .is))
-    (bulk-dropped rule v r (h .st .retire) (eitherServes r) here (ap (flipped b) (h .at .stands .turn) ∙ flips-slot b (s .retired)))
+    (bulk-dropped rule v r (h .st .retire) (eitherServes r) (sym (ap wellFormed (h .is)) ∙ well) here (ap (flipped b) (h .at .stands .turn) ∙ flips-slot b (s .retired)))
 
-cancel-told : (rule : DeskRule) (u : UnderWay) (t : Transfer) → Holds u t → Dropped rule u (cancelOf t)
-cancel-told rule none t h = none-dropped rule t h
-cancel-told rule (bulk u) t h = by (u .direction) h
+cancel-told : (rule : DeskRule) (u : UnderWay) (t : Transfer) → wellFormed t ≡ true → Holds u t → Dropped rule u (cancelOf t)
+cancel-told rule none t well h = none-dropped rule t h
+cancel-told rule (bulk u) t well h = by (u .direction) h
   where
     by : (d : Direction) → BulkHolds d (u .toggle) (u .packets) (u .tally) t → Dropped rule (bulk (record { direction = d; toggle = u .toggle; packets = u .packets; tally = u .tally })) (cancelOf t)
-    by In h = in-dropped rule (u .toggle) (u .packets) (u .tally) t h
-    by Out h = out-dropped rule (u .toggle) (u .packets) (u .tally) t h
+    by In h = in-dropped rule (u .toggle) (u .packets) (u .tally) t well h
+    by Out h = out-dropped rule (u .toggle) (u .packets) (u .tally) t well h
 
 -- ---- a begin
 
@@ -644,16 +645,32 @@ begin-told u t (bulkBegin Out a e p k b) buf m log h =
 
 -- ---- every list of calls
 
-call-told : (c : Call) (d : Driver) (u : UnderWay) → Holds u (d .transfer) → CallToggle (d .rule) u d c × Holds (tells u c (call d c .answer)) (call d c .next .transfer)
+call-told : (c : Call) (d : Driver) (u : UnderWay) → wellFormed (d .transfer) ≡ true → Holds u (d .transfer) → CallToggle (d .rule) u d c × Holds (tells u c (call d c .answer)) (call d c .next .transfer)
 unfolding call
-call-told (begin x buf m log) d u h = (tt, begin-told u (d .transfer) x buf m log h)
-call-told (step filling y buf m log) d u h = step-told (d .rule) u (d .transfer) y filling buf m log h
-call-told cancel d u h = cancel-told (d .rule) u (d .transfer) h
-call-told (openPipe a x e p i log) d u h = (tt, h)
-call-told (closePipe n) d u h = (tt, h)
-call-told (pollPipe n y m log) d u h = (tt, h)
-call-told (interrupt ints status log) d u h = (tt, h)
-call-told (detect sie log) d u h = (tt, h)
+call-told (begin x buf m log) d u well h = (tt, begin-told u (d .transfer) x buf m log h)
+call-told (step filling y buf m log) d u well h = step-told (d .rule) u (d .transfer) y filling buf m log h
+call-told cancel d u well h = cancel-told (d .rule) u (d .transfer) well h
+call-told (openPipe a x e p i log) d u well h = (tt, h)
+call-told (closePipe n) d u well h = (tt, h)
+call-told (pollPipe n y m log) d u well h = (tt, h)
+call-told (interrupt ints status log) d u well h = (tt, h)
+call-told (detect sie log) d u well h = (tt, h)
+
+begin-well : (t : Transfer) (x : Begin) (buf m log : List ℕ) → wellFormed t ≡ true → wellFormed (beginning t x buf m log .next) ≡ true
+begin-well t (controlBegin a z p s ph) buf m log h = begin-control-well t a z p s ph buf m log h
+begin-well t (bulkBegin In a e p k b) buf m log h = begin-bulk-in-well t a e p k b buf m log h
+begin-well t (bulkBegin Out a e p k b) buf m log h = begin-bulk-out-well t a e p k b buf m log h
+
+call-well : (c : Call) (d : Driver) → wellFormed (d .transfer) ≡ true → wellFormed (call d c .next .transfer) ≡ true
+unfolding call
+call-well (begin x buf m log) d h = begin-well (d .transfer) x buf m log h
+call-well (step filling y buf m log) d h = step-well filling (d .transfer) y buf m log h
+call-well cancel d h = cancel-well (d .transfer) h
+call-well (openPipe a x e p i log) d h = h
+call-well (closePipe n) d h = h
+call-well (pollPipe n y m log) d h = h
+call-well (interrupt ints status log) d h = h
+call-well (detect sie log) d h = h
 
 rule-stays : (c : Call) (d : Driver) → call d c .next .rule ≡ d .rule
 unfolding call
@@ -666,13 +683,13 @@ rule-stays (pollPipe n y m log) d = refl
 rule-stays (interrupt ints status log) d = refl
 rule-stays (detect sie log) d = refl
 
-toggles-from : (cs : List Call) (d : Driver) (u : UnderWay) → Holds u (d .transfer) → TogglesFrom (d .rule) u d cs
+toggles-from : (cs : List Call) (d : Driver) (u : UnderWay) → wellFormed (d .transfer) ≡ true → Holds u (d .transfer) → TogglesFrom (d .rule) u d cs
 unfolding TogglesFrom
-toggles-from [] d u h = tt
-toggles-from (c ∷ cs) d u h =
-    let z = call-told c d u h in
+toggles-from [] d u well h = tt
+toggles-from (c ∷ cs) d u well h =
+    let z = call-told c d u well h in
     let o = call d c in
-    (z .0, subst (λ (rule : DeskRule). TogglesFrom rule (tells u c (o .answer)) (o .next) cs) (rule-stays c d) (toggles-from cs (o .next) (tells u c (o .answer)) (z .1)))
+    (z .0, subst (λ (rule : DeskRule). TogglesFrom rule (tells u c (o .answer)) (o .next) cs) (rule-stays c d) (toggles-from cs (o .next) (tells u c (o .answer)) (call-well c d well) (z .1)))
 
 pub toggles : Toggles
-toggles rule cs = toggles-from cs (fresh rule) none tt
+toggles rule cs = toggles-from cs (fresh rule) none refl tt

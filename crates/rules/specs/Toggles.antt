@@ -1,5 +1,6 @@
 -- "Desk rule 1 leaves the bulk toggle as it was when a transfer fails, as the Rust does. Our desk rule 2 flips it once per packet retired before the failure or
 -- cancel, the packet refused by 9 not counted, and hands it out with that failure or cancel."
+-- The answers are the driver's own; that they are document 01's by its order of checks is what step and cancel promise (`stepRow`, `cancelRow`).
 use mathlib.Core.Path.{_≡_}
 use mathlib.Core.Bool.{Bool, true, false, cond, not, _&&_}
 use mathlib.Core.List.{List, [], _∷_}
@@ -24,7 +25,7 @@ use Rattle.transfers.specs.Driver.{fresh, stepped, dropped}
 use Rattle.record.specs.Calls.{Begin, controlBegin, bulkBegin, Call, begin, step, cancel, openPipe, closePipe, pollPipe, interrupt, detect, Answer, call}
 use Rattle.rules.specs.Fields.{readBufferControl}
 use Rattle.rules.specs.Received.{quiet, slotOf}
-use Rattle.rules.specs.Sends.{SentTally, sentIf, sendTwo, flipTimes}
+use Rattle.rules.specs.Sends.{SentTally, wasSent, sentIf, sendTwo, flipTimes}
 use Rattle.rules.specs.HandsBack.{endsTransfer}
 
 -- ---- what the calls, their samples and answers tell of the bulk transfer under way
@@ -54,7 +55,7 @@ began (bulkBegin Out a e p k b) buf = starts Out b (length (outCut k p b buf))
 -- The next packet in flight is done with: its slot is FULL where it was received, not FULL any more where it was sent.
 abbrev pub isDone : Direction → ℕ → SentTally → Bool
 isDone In w s = ltb (s .retired) (s .armed) && readBufferControl w (slotOf (s .retired)) .FULL
-isDone Out w s = ltb (s .retired) (s .armed) && not (readBufferControl w (slotOf (s .retired)) .FULL)
+isDone Out w s = wasSent w s
 
 -- One slot, by the word of EP_BUFFER_CONTROL.
 unfoldable pub doneOne : Direction → ℕ → SentTally → SentTally
@@ -64,7 +65,7 @@ doneOne d w s = sentIf (isDone d w s) s
 abbrev pub doneTwo : Direction → ℕ → SentTally → SentTally
 doneTwo d w s = doneOne d w (doneOne d w s)
 
--- A step that leaves the transfer under way: "None of these: retire up to two slots, arm up to two"; with nothing raised it does neither.
+-- A step that answers waiting: "None of these: retire up to two slots, arm up to two"; with nothing raised it does neither.
 abbrev pub talliedBy : Bool → Direction → ℕ → ℕ → SentTally → SentTally
 talliedBy true d packets w s = s
 talliedBy false d packets w s = sendTwo packets w (doneTwo d w s)
@@ -74,7 +75,7 @@ abbrev pub movedOn : Bulk → Sample → Bulk
 movedOn u y =
     record { direction = u .direction; toggle = u .toggle; packets = u .packets; tally = talliedBy (quiet y) (u .direction) (u .packets) (y .buffers) (u .tally) }
 
--- After a step, by its answer: done and the numbers that end a transfer end it, 15 and 16 leave it.
+-- After a step, by its answer: done, 1 to 7 and 9 end it, waiting and any other number leave it.
 abbrev pub steppedOn : UnderWay → Sample → StepAnswer → UnderWay
 steppedOn none y a = none
 steppedOn (bulk u) y (Waiting again) = bulk (movedOn u y)
@@ -101,25 +102,25 @@ abbrev pub failing : DeskRule → Bool → ℕ → Bool
 failing One b n = b
 failing Two b n = flipTimes b n
 
--- The packets retired before a step's number n: those of earlier steps, since errors are found before any slot is looked at; at 9 also the one before the long packet, if
--- the next slot's isn't the long one.
+-- The packets retired before a step's number n: those of earlier steps, for 1 to 7 come before any retire; at 9, where the long packet is in the next slot or the one
+-- after it, also the next slot's, if that isn't the long one.
 abbrev pub retiredBefore : ℕ → Bulk → Sample → ℕ
 retiredBefore n u y =
     let r = u .tally .retired in
     cond (eqb n 9 && not (ltb 64 (readBufferControl (y .buffers) (slotOf r) .LENGTH))) (r + 1) r
 
--- With a step, by its answer; a control transfer has no toggle, and false goes out.
+-- With a step, by its answer; a control transfer has no toggle, nor has nothing under way, and false goes out.
 abbrev pub StepToggle : DeskRule → UnderWay → Sample → StepAnswer → Bool → Type 0
 StepToggle rule none y a out = out ≡ false
 StepToggle rule (bulk u) y (Waiting again) out = out ≡ u .toggle
 StepToggle rule (bulk u) y (Done count) out = out ≡ flipTimes (u .toggle) (doneTwo (u .direction) (y .buffers) (u .tally) .retired)
 StepToggle rule (bulk u) y (Refused why) out = out ≡ cond (endsTransfer (numberOf why)) (failing rule (u .toggle) (retiredBefore (numberOf why) u y)) (u .toggle)
 
--- With a cancel.
+-- With a cancel, which no bulk transfer under way refuses.
 abbrev pub CancelToggle : DeskRule → UnderWay → CancelAnswer → Bool → Type 0
 CancelToggle rule none a out = out ≡ false
 CancelToggle rule (bulk u) Cancelled out = out ≡ failing rule (u .toggle) (u .tally .retired)
-CancelToggle rule (bulk u) (CancelRefused why) out = out ≡ u .toggle
+CancelToggle rule (bulk u) (CancelRefused why) out = ⊥
 
 -- With a call: only steps and cancels hand a toggle out.
 abbrev pub CallToggle : DeskRule → UnderWay → Driver → Call → Type 0

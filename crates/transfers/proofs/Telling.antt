@@ -13,7 +13,7 @@ use Rattle.transfers.specs.Log.{Write, Wrote}
 use Rattle.transfers.specs.Outcome.{Outcome, after}
 use Rattle.transfers.specs.Acts.{told, Tells, Moves, Acts}
 use Rattle.transfers.specs.Entries.{entriesStepped, failedStep}
-use Rattle.transfers.specs.Driver.{withTransfer, handedOut, stepped}
+use Rattle.transfers.specs.Driver.{withTransfer, toggleByRule, stepped}
 use Rattle.transfers.proofs.Logs.{then}
 
 -- A result that tells an outcome, with its writes put.
@@ -41,7 +41,7 @@ moves-at {l = l} {l′ = l′} {m = m} {k = k} {r = r} e t = subst (λ (o : Outc
 
 -- A step's result, lifted to the driver with the count of entries.
 pub lifted : (d : Driver) (o : Outcome) (p : Progress) (next : Driver) (b : Bool) (n : ℕ) (x : OptionEntries) → p ≡ told o (0 + length (o .writes)) → next ≡ withTransfer d (p .next) n
-    → b ≡ handedOut (d .rule) (p .toggle) (p .moved) → n ≡ entriesStepped (p .answer) (d .entries) (p .armed) → x ≡ failedStep (p .answer) (d .entries)
+    → b ≡ toggleByRule (d .rule) (p .toggle) (p .moved) → n ≡ entriesStepped (p .answer) (d .entries) (p .armed) → x ≡ failedStep (p .answer) (d .entries)
     → _≡_ {A = Stepped} (record { next = next; answer = p .answer; toggle = b; armed = p .armed; failed = x; writes = p .writes }) (stepped d o)
 lifted d o p next b n x e h t k f =
     ap₂ (λ (u : Driver) (v : OptionEntries). record { next = u; answer = p .answer; toggle = b; armed = p .armed; failed = v; writes = p .writes }) (h ∙ ap (withTransfer d (p .next)) k) f
@@ -50,4 +50,4 @@ lifted d o p next b n x e h t k f =
     ∙ ap (λ (w : ℕ). lift d (told o w)) (zero-add (length (o .writes)))
   where
     lift : Driver → Progress → Stepped
-    lift d q = record { next = withTransfer d (q .next) (entriesStepped (q .answer) (d .entries) (q .armed)); answer = q .answer; toggle = handedOut (d .rule) (q .toggle) (q .moved); armed = q .armed; failed = failedStep (q .answer) (d .entries); writes = q .writes }
+    lift d q = record { next = withTransfer d (q .next) (entriesStepped (q .answer) (d .entries) (q .armed)); answer = q .answer; toggle = toggleByRule (d .rule) (q .toggle) (q .moved); armed = q .armed; failed = failedStep (q .answer) (d .entries); writes = q .writes }

@@ -28,9 +28,9 @@ abbrev pub withTransfer : Driver → Transfer → ℕ → Driver
 withTransfer d t n = record { transfer = t; entries = n; pipes = d .pipes; last = d .last; rule = d .rule }
 
 -- The toggle that goes out, of the two that a call's definition has for desk rule 1 and rule 2.
-abbrev pub handedOut : DeskRule → Bool → Bool → Bool
-handedOut One t v = t
-handedOut Two t v = v
+abbrev pub toggleByRule : DeskRule → Bool → Bool → Bool
+toggleByRule One t v = t
+toggleByRule Two t v = v
 
 -- What the driver's begin hands back.
 abbrev pub begun : Driver → Beginning → Begun
@@ -41,7 +41,7 @@ abbrev pub stepped : Driver → Outcome → Stepped
 stepped d o = record {
   next = withTransfer d (o .next) (entriesStepped (o .answer) (d .entries) (o .armed));
   answer = o .answer;
-  toggle = handedOut (d .rule) (o .toggle) (o .moved);
+  toggle = toggleByRule (d .rule) (o .toggle) (o .moved);
   armed = o .armed;
   failed = failedStep (o .answer) (d .entries);
   writes = length (o .writes);
@@ -49,7 +49,7 @@ stepped d o = record {
 
 -- What its cancel hands back.
 abbrev pub dropped : Driver → Cancelling → Dropped
-dropped d o = record { next = withTransfer d (o .next) (entriesCancelled (o .answer) (d .entries)); answer = o .answer; toggle = handedOut (d .rule) (o .toggle) (o .moved); failed = failedCancel (o .answer) (d .entries) }
+dropped d o = record { next = withTransfer d (o .next) (entriesCancelled (o .answer) (d .entries)); answer = o .answer; toggle = toggleByRule (d .rule) (o .toggle) (o .moved); failed = failedCancel (o .answer) (d .entries) }
 
 -- A begin's results: the answer with the next state, packet memory, and the log.
 pub record DidBegin (d : Driver) (o : Beginning) (l : List ℕ) (r : Begun) (m′ l′ : List ℕ) : Type 0 where

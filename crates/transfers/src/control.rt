@@ -22,7 +22,7 @@ use cutting::transfer_type::TransferType;
 ghost use mathlib.Core.Path.{_≡_};
 ghost use mathlib.Core.Bool.{true, false};
 ghost use Rattle.transfers.specs.Calls.{stepOf, cancelOf, beginControlOf, beginBulkInOf, beginBulkOutOf};
-ghost use Rattle.transfers.specs.Driver.{fresh, withTransfer, handedOut, DidBegin, DidStep, dropped};
+ghost use Rattle.transfers.specs.Driver.{fresh, withTransfer, toggleByRule, DidBegin, DidStep, dropped};
 ghost use Rattle.transfers.specs.Reply.{beginReply, stepReply, cancelReply};
 ghost use Rattle.transfers.specs.Rows.{controlRow, bulkRow, stepRow, cancelRow};
 
@@ -33,7 +33,7 @@ pub struct Begun {
     pub writes: usize,
 }
 
-// `toggle` is a bulk transfer's: the one to go on with after done, else the one that came in. `failed` is there where the step ended the transfer without a count.
+// `toggle` is a bulk transfer's: the one to go on with after done, by desk rule 2 after a failure too, else the one that came in. `failed` is there where the step ended the transfer without a count.
 pub struct Stepped {
     pub next: Driver,
     pub answer: StepAnswer,
@@ -66,8 +66,8 @@ fn with_transfer(d: Driver, t: Transfer, entries: u32) -> Driver
 }
 
 // The toggle of a step or cancel, by the desk rule.
-fn handed_out(rule: DeskRule, toggle: bool, moved: bool) -> bool
-    ensures { λ r. ⌜ r ≡ handedOut rule toggle moved ⌝ }
+fn toggle_by_rule(rule: DeskRule, toggle: bool, moved: bool) -> bool
+    ensures { λ r. ⌜ r ≡ toggleByRule rule toggle moved ⌝ }
 {
     match rule {
         DeskRule::One => toggle,
@@ -212,7 +212,7 @@ impl Driver {
         Stepped {
             next: self,
             answer: answer,
-            toggle: handed_out(rule, p.toggle, p.moved),
+            toggle: toggle_by_rule(rule, p.toggle, p.moved),
             armed: armed,
             failed: failed,
             writes: p.writes,
@@ -236,7 +236,7 @@ impl Driver {
         Stepped {
             next: self,
             answer: answer,
-            toggle: handed_out(rule, p.toggle, p.moved),
+            toggle: toggle_by_rule(rule, p.toggle, p.moved),
             armed: armed,
             failed: failed,
             writes: p.writes,
@@ -258,7 +258,7 @@ impl Driver {
         Dropped {
             next: self,
             answer: answer,
-            toggle: handed_out(rule, c.toggle, c.moved),
+            toggle: toggle_by_rule(rule, c.toggle, c.moved),
             failed: failed,
         }
     }
