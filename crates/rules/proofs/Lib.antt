@@ -28,3 +28,4 @@ pub mod Stores
 pub mod KeepsBytes
 pub mod Toggles
 pub mod Example
+pub mod TwoRules

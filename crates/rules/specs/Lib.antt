@@ -15,5 +15,6 @@ pub mod PipeStates
 pub mod Stores
 pub mod KeepsBytes
 pub mod Toggles
--- A reading aid: one transfer, computed.
+-- Reading aids: one transfer, and the toggle under both desk rules, computed.
 pub mod Example
+pub mod TwoRules
