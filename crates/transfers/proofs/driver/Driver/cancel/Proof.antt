@@ -19,14 +19,14 @@ entries-cancelled-requires c κs = search needs
 with-transfer-requires : tie.Need-with-transfer-requires
 with-transfer-requires c κs = search needs
 
-handed-out-requires : tie.Need-handed-out-requires
-handed-out-requires c κs = search needs
+toggle-by-rule-requires : tie.Need-toggle-by-rule-requires
+toggle-by-rule-requires c κs = search needs
 
 returns : tie.Need-returns
 returns c =
     let d = c .before in
     let e = d .before .before .before .cancel .ensures in
-    (simp (d .with-transfer .ensures, d .before .entries-cancelled .ensures, d .before .before .failed-cancel .ensures, c .handed-out .ensures, e), ap (λ (q : Cancelled). cancelReply (q .answer)) e ∙ cancel-row _)
+    (simp (d .with-transfer .ensures, d .before .entries-cancelled .ensures, d .before .before .failed-cancel .ensures, c .toggle-by-rule .ensures, e), ap (λ (q : Cancelled). cancelReply (q .answer)) e ∙ cancel-row _)
 
 pub cancel-spec : {M : Type 1} → statement M
-cancel-spec = tie.close (tie.spec cancel-requires failed-cancel-requires entries-cancelled-requires with-transfer-requires handed-out-requires returns)
+cancel-spec = tie.close (tie.spec cancel-requires failed-cancel-requires entries-cancelled-requires with-transfer-requires toggle-by-rule-requires returns)

@@ -23,8 +23,8 @@ entries-stepped-requires c κs = search needs
 with-transfer-requires : tie.Need-with-transfer-requires
 with-transfer-requires c κs = search needs
 
-handed-out-requires : tie.Need-handed-out-requires
-handed-out-requires c κs = search needs
+toggle-by-rule-requires : tie.Need-toggle-by-rule-requires
+toggle-by-rule-requires c κs = search needs
 
 same-length : tie.Need-same-length
 same-length c = search needs
@@ -36,7 +36,7 @@ same-length-3 : tie.Need-same-length-3
 same-length-3 c = search needs
 
 returns : tie.Need-returns
-returns c = let a = c .before .before .before .before .before .before .before .before .before .before .before .before .before .before .before .before .before .before .args in let p = (c .before .before .before .before .before .before .before .before .before .before .before .step-in) .ensures in (record { result = lifted (a .self) (stepOf true (a .self .transfer) (a .sample) (now (a .buf)) (now (a .pm)) (now (a .log))) _ _ _ _ _ (p .tells .result) ((c .before .with-transfer) .ensures) ((c .handed-out) .ensures) ((c .before .before .entries-stepped) .ensures) ((c .before .before .before .failed-step) .ensures); memory = p .memory; log = p .tells .log }, p .buffer, ap (λ (q : Progress). stepReply (q .answer)) (p .tells .result) ∙ step-row true (a .self .transfer) (a .sample) (now (a .buf)) (now (a .pm)) (now (a .log)))
+returns c = let a = c .before .before .before .before .before .before .before .before .before .before .before .before .before .before .before .before .before .before .args in let p = (c .before .before .before .before .before .before .before .before .before .before .before .step-in) .ensures in (record { result = lifted (a .self) (stepOf true (a .self .transfer) (a .sample) (now (a .buf)) (now (a .pm)) (now (a .log))) _ _ _ _ _ (p .tells .result) ((c .before .with-transfer) .ensures) ((c .toggle-by-rule) .ensures) ((c .before .before .entries-stepped) .ensures) ((c .before .before .before .failed-step) .ensures); memory = p .memory; log = p .tells .log }, p .buffer, ap (λ (q : Progress). stepReply (q .answer)) (p .tells .result) ∙ step-row true (a .self .transfer) (a .sample) (now (a .buf)) (now (a .pm)) (now (a .log)))
 
 pub step-in-spec : {M : Type 1} → statement M
 step-in-spec =
@@ -46,7 +46,7 @@ step-in-spec =
     failed-step-requires
     entries-stepped-requires
     with-transfer-requires
-    handed-out-requires
+    toggle-by-rule-requires
     same-length
     same-length-2
     same-length-3

@@ -23,8 +23,8 @@ entries-stepped-requires c κs = search needs
 with-transfer-requires : tie.Need-with-transfer-requires
 with-transfer-requires c κs = search needs
 
-handed-out-requires : tie.Need-handed-out-requires
-handed-out-requires c κs = search needs
+toggle-by-rule-requires : tie.Need-toggle-by-rule-requires
+toggle-by-rule-requires c κs = search needs
 
 same-length : tie.Need-same-length
 same-length c = search needs
@@ -33,8 +33,8 @@ same-length-2 : tie.Need-same-length-2
 same-length-2 c = search needs
 
 returns : tie.Need-returns
-returns c = let a = c .before .before .before .before .before .before .before .before .before .before .before .before .before .before .before .args in let p = (c .before .before .before .before .before .before .before .before .before .step-out) .ensures in (record { result = lifted (a .self) (stepOf false (a .self .transfer) (a .sample) (now (a .buf)) (now (a .pm)) (now (a .log))) _ _ _ _ _ (p .tells .result) ((c .before .with-transfer) .ensures) ((c .handed-out) .ensures) ((c .before .before .entries-stepped) .ensures) ((c .before .before .before .failed-step) .ensures); memory = p .memory; log = p .tells .log }, ap (λ (q : Progress). stepReply (q .answer)) (p .tells .result) ∙ step-row false (a .self .transfer) (a .sample) (now (a .buf)) (now (a .pm)) (now (a .log)))
+returns c = let a = c .before .before .before .before .before .before .before .before .before .before .before .before .before .before .before .args in let p = (c .before .before .before .before .before .before .before .before .before .step-out) .ensures in (record { result = lifted (a .self) (stepOf false (a .self .transfer) (a .sample) (now (a .buf)) (now (a .pm)) (now (a .log))) _ _ _ _ _ (p .tells .result) ((c .before .with-transfer) .ensures) ((c .toggle-by-rule) .ensures) ((c .before .before .entries-stepped) .ensures) ((c .before .before .before .failed-step) .ensures); memory = p .memory; log = p .tells .log }, ap (λ (q : Progress). stepReply (q .answer)) (p .tells .result) ∙ step-row false (a .self .transfer) (a .sample) (now (a .buf)) (now (a .pm)) (now (a .log)))
 
 pub step-out-spec : {M : Type 1} → statement M
 step-out-spec =
-    tie.close (tie.spec step-out-requires failed-step-requires entries-stepped-requires with-transfer-requires handed-out-requires same-length same-length-2 returns)
+    tie.close (tie.spec step-out-requires failed-step-requires entries-stepped-requires with-transfer-requires toggle-by-rule-requires same-length same-length-2 returns)
