@@ -58,7 +58,7 @@ use Rattle.record.specs.Calls.{Begin, controlBegin, bulkBegin, Call, begin, ste
 use Rattle.rules.specs.Fields.{readBufferControl}
 use Rattle.rules.specs.Received.{quiet, complete, endsStage, slotOf}
 use Rattle.rules.specs.Sends.{SentTally, sentIf, sentOne, sentTwo, sendTwo, sentBy, flipTimes}
-use Rattle.rules.specs.Toggles.{Bulk, UnderWay, none, bulk, isDone, doneOne, doneTwo, talliedBy, movedOn, steppedOn, tells, failing, retiredBefore, StepToggle, CancelToggle, CallToggle, TogglesFrom, Toggles}
+use Rattle.rules.specs.Toggles.{BulkUnderWay, UnderWay, none, bulk, isDone, doneOne, doneTwo, talliedBy, movedOn, steppedOn, tells, failing, retiredBefore, StepToggle, CancelToggle, CallToggle, TogglesFrom, Toggles}
 use Rattle.rules.specs.HandsBack.{endsTransfer, kindToggle}
 use Rattle.rules.proofs.Retired.{no, slot-more}
 use Rattle.rules.proofs.InStage.{not-done, waiting-not, refused-not, by-poll, starts-armed, starts as starts-in}
@@ -267,7 +267,7 @@ abbrev Told : DeskRule → UnderWay → Sample → Outcome → Type 0
 Told rule u y o = StepToggle rule u y (o .answer) (toggleByRule rule (o .toggle) (o .moved)) × Holds (steppedOn u y (o .answer)) (o .next)
 
 -- A bulk transfer's step that acts, by its answer, from: how it goes on, what done hands out, and rule 2's toggle with the packets of earlier steps and at 9.
-acts-told : (rule : DeskRule) (u : Bulk) (x : Request) (st : Stage) (y : Sample) (buf m : List ℕ) → let o = acts x st y buf m in kindToggle (x .kind) ≡ u .toggle
+acts-told : (rule : DeskRule) (u : BulkUnderWay) (x : Request) (st : Stage) (y : Sample) (buf m : List ℕ) → let o = acts x st y buf m in kindToggle (x .kind) ≡ u .toggle
     → (StaysWith x (o .next) → Holds (bulk (movedOn u y)) (o .next))
     → ((count : ℕ) → o .answer ≡ Done count → o .toggle ≡ flipTimes (u .toggle) (doneTwo (u .direction) (y .buffers) (u .tally) .retired))
     → parityToggle x st ≡ flipTimes (u .toggle) (u .tally .retired)
@@ -295,7 +295,7 @@ acts-told rule u x st y buf m kd goes-on ends earlier nine = by (o .answer) refl
         rw (f .2) (e, over)
 
 -- A step refused with 15 or 16.
-held-refused : (rule : DeskRule) (u : Bulk) (y : Sample) (r : Run) (why : Refusal) (m buf : List ℕ) → kindToggle (r .request .kind) ≡ u .toggle → endsTransfer (numberOf why) ≡ false → Holds (bulk u) (Busy r)
+held-refused : (rule : DeskRule) (u : BulkUnderWay) (y : Sample) (r : Run) (why : Refusal) (m buf : List ℕ) → kindToggle (r .request .kind) ≡ u .toggle → endsTransfer (numberOf why) ≡ false → Holds (bulk u) (Busy r)
     → Told rule (bulk u) y (refuses (Busy r) why m buf)
 held-refused rule u y r why m buf kd f h =
     let e = same-toggle (r .request .kind) ∙ kd in
@@ -332,7 +332,7 @@ in-told rule b packets s t y filling buf m log h =
     (by-busy (Told rule (bulk u) y) filling r y buf m log (held-refused rule u y r LentMemory m buf refl refl here) (held-refused rule u y r State m buf refl refl here)
     (λ f g l. acts-told rule u x (inStage (h .st)) y buf m refl (goes-on comes) (ends comes) (ap (flipped b) (h .at .turn) ∙ flips-slot b (s .retired)) nine))
   where
-    u : Bulk
+    u : BulkUnderWay
     u = record { direction = In; toggle = b; packets = packets; tally = s }
 
     x : Request
@@ -415,7 +415,7 @@ out-told rule b packets s t y filling buf m log h =
     (by-busy (Told rule (bulk u) y) filling r y buf m log (held-refused rule u y r LentMemory m buf refl refl here) (held-refused rule u y r State m buf refl refl here)
     (λ f g l. acts-told rule u x (outStage (h .st)) y buf m refl (goes-on comes) (ends comes) (ap (flipped b) (h .at .stands .turn) ∙ flips-slot b (s .retired)) (λ n z. absurd z)))
   where
-    u : Bulk
+    u : BulkUnderWay
     u = record { direction = Out; toggle = b; packets = packets; tally = s }
 
     x : Request
@@ -544,7 +544,7 @@ abbrev Dropped : DeskRule → UnderWay → Cancelling → Type 0
 Dropped rule u o = CancelToggle rule u (o .answer) (toggleByRule rule (o .toggle) (o .moved)) × Holds (tells u cancel (o .answer)) (o .next)
 
 -- Of a bulk transfer whose stage has the parity of the packets retired.
-bulk-dropped : (rule : DeskRule) (u : Bulk) (r : Run) (parity v : Bool) → v ≡ true → Holds (bulk u) (Busy r) → flipped (u .toggle) parity ≡ flipTimes (u .toggle) (u .tally .retired)
+bulk-dropped : (rule : DeskRule) (u : BulkUnderWay) (r : Run) (parity v : Bool) → v ≡ true → Holds (bulk u) (Busy r) → flipped (u .toggle) parity ≡ flipTimes (u .toggle) (u .tally .retired)
     → Dropped rule (bulk u) (cancelIf v (Busy r) (u .toggle) (flipped (u .toggle) parity))
 bulk-dropped rule u r parity true good h e = (handed-failing rule (u .toggle) (flipped (u .toggle) parity) (u .toggle) (u .tally .retired) refl e, tt)
 bulk-dropped rule u r parity false good h e = no (sym good)
@@ -568,7 +568,7 @@ in-dropped : (rule : DeskRule) (b : Bool) (packets : ℕ) (s : SentTally) (t : T
 unfolding cancelOf
 in-dropped rule b packets s t well h =
     let r : Run = record { request = inX (h .a) (h .e) (h .p) (h .k) b (h .n); stage = inStage (h .st) } in
-    let v : Bulk = record { direction = In; toggle = b; packets = packets; tally = s } in
+    let v : BulkUnderWay = record { direction = In; toggle = b; packets = packets; tally = s } in
     let here : InHolds b packets s (Busy r) = record { a = h .a; e = h .e; p = h .p; k = h .k; n = h .n; st = h .st; is = refl; many = h .many; at = h .at } in
     subst (λ (t : Transfer). Dropped rule (bulk v) (cancelOf t)) (sym (h .is))
     (bulk-dropped rule v r (h .st .retire) (eitherServes r) (sym (ap wellFormed (h .is)) ∙ well) here (ap (flipped b) (h .at .turn) ∙ flips-slot b (s .retired)))
@@ -577,7 +577,7 @@ out-dropped : (rule : DeskRule) (b : Bool) (packets : ℕ) (s : SentTally) (t : 
 unfolding cancelOf
 out-dropped rule b packets s t well h =
     let r : Run = record { request = bulkRequest Out (h .a) (h .e) (h .p) b (length (h .first)); stage = outStage (h .st) } in
-    let v : Bulk = record { direction = Out; toggle = b; packets = packets; tally = s } in
+    let v : BulkUnderWay = record { direction = Out; toggle = b; packets = packets; tally = s } in
     let here : OutHolds b packets s (Busy r) = record { a = h .a; e = h .e; p = h .p; k = h .k; first = h .first; st = h .st; is = refl; many = h .many; at = h .at } in
     subst (λ (t : Transfer). Dropped rule (bulk v) (cancelOf t)) (sym (h .is))
     (bulk-dropped rule v r (h .st .retire) (eitherServes r) (sym (ap wellFormed (h .is)) ∙ well) here (ap (flipped b) (h .at .stands .turn) ∙ flips-slot b (s .retired)))

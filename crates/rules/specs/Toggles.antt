@@ -31,7 +31,7 @@ use Rattle.rules.specs.HandsBack.{endsTransfer}
 -- ---- what the calls, their samples and answers tell of the bulk transfer under way
 
 -- Its direction, the toggle handed in, its packets in number, and how many of them were armed and retired.
-pub record Bulk : Type 0 where
+pub record BulkUnderWay : Type 0 where
   pub direction : Direction
   pub toggle : Bool
   pub packets : ℕ
@@ -40,7 +40,7 @@ pub record Bulk : Type 0 where
 -- No transfer, or a control; or a bulk transfer.
 pub data UnderWay : Type 0 where
   none : UnderWay
-  bulk : Bulk → UnderWay
+  bulk : BulkUnderWay → UnderWay
 
 -- A bulk transfer begins: up to two packets are armed.
 abbrev pub starts : Direction → Bool → ℕ → UnderWay
@@ -71,7 +71,7 @@ talliedBy true d packets w s = s
 talliedBy false d packets w s = sendTwo packets w (doneTwo d w s)
 
 -- The transfer after such a step.
-abbrev pub movedOn : Bulk → Sample → Bulk
+abbrev pub movedOn : BulkUnderWay → Sample → BulkUnderWay
 movedOn u y =
     record { direction = u .direction; toggle = u .toggle; packets = u .packets; tally = talliedBy (quiet y) (u .direction) (u .packets) (y .buffers) (u .tally) }
 
@@ -104,7 +104,7 @@ failing Two b n = flipTimes b n
 
 -- The packets retired before a step's number n: those of earlier steps, for 1 to 7 come before any retire; at 9, where the long packet is in the next slot or the one
 -- after it, also the next slot's, if that isn't the long one.
-abbrev pub retiredBefore : ℕ → Bulk → Sample → ℕ
+abbrev pub retiredBefore : ℕ → BulkUnderWay → Sample → ℕ
 retiredBefore n u y =
     let r = u .tally .retired in
     cond (eqb n 9 && not (ltb 64 (readBufferControl (y .buffers) (slotOf r) .LENGTH))) (r + 1) r

@@ -1,5 +1,5 @@
 //! `oracle vectors`: the stored script, an enumerated list. Its cases stand in files by
-//! call and branch; each begins with a comment and `fresh`.
+//! call and branch; each begins with a comment and `fresh`, or `rule`.
 
 mod begins;
 mod bulk;
