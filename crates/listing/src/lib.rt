@@ -1,5 +1,9 @@
 // A record's listing on standard output, as document 01 shows it.
-use libc::STDOUT_FILENO;
+use printing::print_byte;
+use printing::print_end;
+use printing::print_number;
+use printing::print_refused;
+use printing::print_text;
 use record::items::BulkItem;
 use record::items::ControlItem;
 use record::items::Cursor;
@@ -19,17 +23,6 @@ ghost use Rattle.record.specs.Grammar.{Bytes};
 ghost use Rattle.record.specs.Refusal.{checkReply};
 ghost use Rattle.record.specs.Verdict.{Verdict};
 
-// A space and a number.
-fn print_number(n: usize) {
-    io::write_all(STDOUT_FILENO, b" ");
-    io::print_decimal(STDOUT_FILENO, n as u64);
-}
-
-// Two digits.
-fn print_byte(b: u8) {
-    io::print_hex(STDOUT_FILENO, b as u64, 2);
-}
-
 fn print_bytes(bytes: &[u8]) {
     for i in 0..bytes.len() {
         print_byte(bytes[i]);
@@ -46,21 +39,21 @@ fn print_setup(s: &[u8], at: usize) {
 }
 
 fn print_control(s: &[u8], c: ControlItem) {
-    io::write_all(STDOUT_FILENO, b"control");
+    print_text(b"control");
     print_number(c.address as usize);
-    io::write_all(STDOUT_FILENO, b" ");
+    print_text(b" ");
     print_setup(s, c.setup);
     print_number(c.count);
-    io::write_all(STDOUT_FILENO, b"\n");
+    print_text(b"\n");
 }
 
 fn print_bulk(b: BulkItem) {
-    io::write_all(STDOUT_FILENO, b"bulk");
+    print_text(b"bulk");
     print_number(b.address as usize);
     print_number(b.endpoint as usize);
     print_number(b.pid as usize);
     print_number(b.count);
-    io::write_all(STDOUT_FILENO, b"\n");
+    print_text(b"\n");
 }
 
 // The next cursor, or no more items.
@@ -88,12 +81,6 @@ fn print_item(s: &[u8], cursor: Cursor) -> Turn {
     }
 }
 
-fn print_refusal(refusal: Refusal) {
-    io::write_all(STDOUT_FILENO, b"refused");
-    print_number(number(refusal) as usize);
-    io::write_all(STDOUT_FILENO, b"\n");
-}
-
 // The items up to the end. Each has at least one byte in the record, so as many items as bytes are enough.
 fn print_items(s: &[u8]) {
     let mut cursor = first();
@@ -111,13 +98,11 @@ fn print_items(s: &[u8]) {
 }
 
 fn print_transfers(s: &[u8], count: usize) {
-    io::write_all(STDOUT_FILENO, b"WLG");
+    print_text(b"WLG");
     print_number(version(s) as usize);
-    io::write_all(STDOUT_FILENO, b"\n");
+    print_text(b"\n");
     print_items(s);
-    io::write_all(STDOUT_FILENO, b"end");
-    print_number(count);
-    io::write_all(STDOUT_FILENO, b"\n");
+    print_end(count);
 }
 
 // "a record of at most 65,536 bytes .. 21 if the input is longer": else what the reader answers.
@@ -135,7 +120,7 @@ fn limited(s: &[u8]) -> CheckAnswer
 fn print_record(s: &[u8]) {
     let answer = limited(s);
     match answer {
-        CheckAnswer::Refused(refusal) => print_refusal(refusal),
+        CheckAnswer::Refused(refusal) => print_refused(number(refusal)),
         CheckAnswer::Transfers(count) => print_transfers(s, count),
     }
 }
