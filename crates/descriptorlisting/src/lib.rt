@@ -5,6 +5,7 @@ use descriptor::walk::EndpointKind;
 use descriptor::walk::WalkAnswer;
 use descriptor::walk::answer_at;
 use descriptor::walk::descriptor_at;
+use input::whole::is_longer;
 use libc::STDOUT_FILENO;
 use printing::print_byte;
 use printing::print_end;
@@ -13,7 +14,6 @@ use printing::print_refused;
 use printing::print_text;
 ghost use mathlib.Core.Path.{_≡_};
 ghost use Prim.Native.Nat.{_≤_};
-ghost use lib.Dec.{ltb};
 ghost use lib.ListN.{length};
 ghost use Rattle.descriptor.specs.Walk.{walkOf};
 ghost use Rattle.descriptorlisting.specs.Turn.{turnOf};
@@ -128,24 +128,11 @@ fn print_walk(bytes: &[u8]) {
     }
 }
 
-// "at most 65,536 bytes"
-fn is_longer(bytes: &[u8]) -> bool
-    ensures { λ r. ⌜ r ≡ ltb 65536 (length (now (bytes .entry))) ⌝ }
-{
-    65536 < bytes.len()
-}
-
-fn print_configuration(bytes: &[u8]) {
+// Lists a configuration's descriptors, or says that it is too long.
+pub fn print_configuration(bytes: &[u8]) {
     if is_longer(bytes) {
         print_refused(21);
     } else {
         print_walk(bytes);
-    }
-}
-
-// The configuration is the first n bytes.
-pub fn print_first(room: &[u8], n: usize) {
-    if n <= room.len() {
-        print_configuration(&room[..n]);
     }
 }

@@ -1,4 +1,5 @@
 // A record's listing on standard output, as document 01 shows it.
+use input::whole::is_longer;
 use printing::print_byte;
 use printing::print_end;
 use printing::print_number;
@@ -110,24 +111,17 @@ fn limited(s: &[u8]) -> CheckAnswer
     ensures { λ r. ⌜ (65536 < length (now (s .entry)) → checkReply r ≡ number 21) ⌝ }
     ensures { λ r. ⌜ (length (now (s .entry)) ≤ 65536 → Bytes (now (s .entry)) → Verdict (now (s .entry)) (checkReply r)) ⌝ }
 {
-    if 65536 < s.len() {
+    if is_longer(s) {
         return CheckAnswer::Refused(Refusal::Room);
     }
     check(s)
 }
 
 // Lists a record's transfers, or says why it is refused.
-fn print_record(s: &[u8]) {
+pub fn print_record(s: &[u8]) {
     let answer = limited(s);
     match answer {
         CheckAnswer::Refused(refusal) => print_refused(number(refusal)),
         CheckAnswer::Transfers(count) => print_transfers(s, count),
-    }
-}
-
-// The record is the first n bytes.
-pub fn print_first(room: &[u8], n: usize) {
-    if n <= room.len() {
-        print_record(&room[..n]);
     }
 }

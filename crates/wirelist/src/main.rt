@@ -1,18 +1,10 @@
 // Lists the record on standard input.
-use libc::STDIN_FILENO;
-use listing::print_first;
-ghost use Prim.Native.Nat.{_<_};
-ghost use lib.ListN.{length};
-
-// The first n bytes are the input. There is room for more than "65,536 bytes", so that a longer one is seen.
-fn print_input(room: &[u8], n: usize)
-    requires { ⌜ 65536 < length (now room) ⌝ }
-{
-    print_first(room, n);
-}
+use input::whole::first;
+use input::whole::read_input;
+use listing::print_record;
 
 fn main() {
     let mut room = [0u8; 65537];
-    let n = io::read_full(STDIN_FILENO, &mut room);
-    print_input(&room, n);
+    let n = read_input(&mut room);
+    print_record(first(&room, n));
 }

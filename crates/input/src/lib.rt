@@ -1,0 +1,3 @@
+// What the listings read from standard input.
+pub mod cases;
+pub mod whole;
