@@ -11,7 +11,7 @@ use lib.ListN.{length, take, drop, getD, length-drop, take-append-drop, List·ge
 use lib.Seq.{length-take-le, getD-take, getD-drop}
 use lib.Seq.{take-append-seam, drop-append-seam, getD-append-add}
 use borrow.Author.Tests.{ltb-true, ltb-false, leb-true, leb-false, eqb-true, eqb-false, not-true, not-false, lt-ltb, le-ltb, le-leb, lt-leb, eq-eqb, ne-eqb}
-use Rattle.descriptor.specs.Walk.{EndpointFields, Walked, descriptor, endpoint, end, refused, totalOf, partAt, fieldsAt, endpointAt, descriptorAt, foundAt, walkOf}
+use Rattle.descriptor.specs.Walk.{EndpointFields, Walked, descriptor, endpoint, end, refused, totalOf, partAt, fieldsAt, endpointAnswer, typedAnswer, insideAnswer, walkOf}
 use Rattle.descriptor.specs.Answers.{Headed, Accepted, Stands, Deserves, noHead, wrongTotal, atEnd, tooShort, runsPast, shortEndpoint, anotherType, anEndpoint, Answers}
 
 by-cond : (P : Walked → Type 0) (t : Bool) (x y : Walked) → (t ≡ true → P x) → (t ≡ false → P y) → P (cond t x y)
@@ -83,18 +83,18 @@ fields : (b : List ℕ) (at : ℕ) → 7 ≤ getD b at 0
 fields b at h =
     rw (part-byte b at 2 (omega (arith, h)), part-byte b at 3 (omega (arith, h)), part-byte b at 4 (omega (arith, h)), part-byte b at 5 (omega (arith, h)), part-byte b at 6 (omega (arith, h)))
 
-found : (b : List ℕ) (at : ℕ) → Accepted b → at < totalOf b → Deserves b at (foundAt b at)
+found : (b : List ℕ) (at : ℕ) → Accepted b → at < totalOf b → Deserves b at (insideAnswer b at)
 found b at a h =
     by-cond (Deserves b at) (ltb (getD b at 0) 2) (refused 22) _ (λ e. tooShort a h (ltb-true _ _ e) refl)
-    (λ e. by-cond (Deserves b at) (ltb (totalOf b) (at + getD b at 0)) (refused 23) (descriptorAt b at) (λ f. runsPast a h (omega (arith, ltb-false (getD b at 0) 2 e)) (ltb-true _ _ f) refl)
+    (λ e. by-cond (Deserves b at) (ltb (totalOf b) (at + getD b at 0)) (refused 23) (typedAnswer b at) (λ f. runsPast a h (omega (arith, ltb-false (getD b at 0) 2 e)) (ltb-true _ _ f) refl)
     (λ f. within (ltb-false _ _ e) (ltb-false _ _ f)))
   where
-    within : 2 ≤ getD b at 0 → at + getD b at 0 ≤ totalOf b → Deserves b at (descriptorAt b at)
+    within : 2 ≤ getD b at 0 → at + getD b at 0 ≤ totalOf b → Deserves b at (typedAnswer b at)
     within two fits =
         let s = stands b at a two fits in
         let l = length-part b at (omega (arith, fits, a .lent)) in
         let kind : getD (partAt b at) 1 0 ≡ getD b (at + 1) 0 = part-byte b at 1 (omega (arith, two)) in
-        by-cond (Deserves b at) (eqb (getD b (at + 1) 0) 5) (endpointAt b at) (descriptor (partAt b at))
+        by-cond (Deserves b at) (eqb (getD b (at + 1) 0) 5) (endpointAnswer b at) (descriptor (partAt b at))
         (λ e. by-cond (Deserves b at) (ltb (getD b at 0) 7) (refused 22) (endpoint (partAt b at) (fieldsAt b at))
         (λ f. shortEndpoint a (partAt b at) s (kind ∙ eqb-true _ _ e) (omega (arith, l, ltb-true (getD b at 0) 7 f)) refl)
         (λ f. anEndpoint a (partAt b at) s (kind ∙ eqb-true _ _ e) (omega (arith, l, ltb-false (getD b at 0) 7 f)) (ap (endpoint (partAt b at)) (fields b at (ltb-false _ _ f)))))
@@ -105,7 +105,7 @@ unfolding walkOf
 deserved b at =
     by-cond (Deserves b at) (ltb (length b) 9 || not (eqb (getD b 1 0) 2)) (refused 24) _ (λ e. noHead (no-head b e) refl)
     (λ e. by-cond (Deserves b at) (ltb (totalOf b) 9 || ltb (length b) (totalOf b)) (refused 23) _ (λ f. wrongTotal (headed b e) (wrong-total b f) refl)
-    (λ f. by-cond (Deserves b at) (leb (totalOf b) at) end (foundAt b at) (λ g. atEnd (accepted b (headed b e) f) (omega (arith, leb-true (totalOf b) at g)) refl)
+    (λ f. by-cond (Deserves b at) (leb (totalOf b) at) end (insideAnswer b at) (λ g. atEnd (accepted b (headed b e) f) (omega (arith, leb-true (totalOf b) at g)) refl)
     (λ g. found b at (accepted b (headed b e) f) (leb-false _ _ g))))
 
 -- ---- what is deserved is answered
@@ -138,7 +138,7 @@ pub end-from : (b : List ℕ) (at : ℕ) → Accepted b → totalOf b ≤ at →
 unfolding walkOf
 end-from b at a h = rw (headed-test b (a .headed), accepted-test b a, le-leb _ _ h)
 
-pub before-end : (b : List ℕ) (at : ℕ) → Accepted b → at < totalOf b → walkOf b at ≡ foundAt b at
+pub before-end : (b : List ℕ) (at : ℕ) → Accepted b → at < totalOf b → walkOf b at ≡ insideAnswer b at
 unfolding walkOf
 before-end b at a h = rw (headed-test b (a .headed), accepted-test b a, lt-leb _ _ h)
 
@@ -146,17 +146,17 @@ before-end b at a h = rw (headed-test b (a .headed), accepted-test b a, lt-leb _
 pub record PartThere (b : List ℕ) (at : ℕ) (p : List ℕ) : Type 0 where
   pub is : partAt b at ≡ p
   pub long : getD b at 0 ≡ length p
-  pub kind : getD b (at + 1) 0 ≡ getD p 1 0
+  pub type-byte : getD b (at + 1) 0 ≡ getD p 1 0
 
 pub part-there : (b : List ℕ) (at : ℕ) (p : List ℕ) → Stands b at p → PartThere b at p
 part-there b at p s =
     let byte : (i : ℕ) → i < length p → getD b (at + i) 0 ≡ getD p i 0 = λ i h. ap₂ (λ (l : List ℕ) (k : ℕ). getD l (k + i) 0) (s .bytes) (sym (s .position)) ∙ getD-append-add (s .before) (p ++ s .after) i 0 ∙ List·getD-append p (s .after) 0 i h in
     let long : getD b at 0 ≡ length p = ap (λ (k : ℕ). getD b k 0) (sym (add-zero at)) ∙ byte 0 (omega (arith, s .begins .two)) ∙ s .begins .own-length in
     let rest : drop at b ≡ p ++ s .after = ap₂ (λ (k : ℕ) (l : List ℕ). drop k l) (sym (s .position)) (s .bytes) ∙ drop-append-seam (s .before) (p ++ s .after) in
-    record { is = ap₂ (λ (k : ℕ) (l : List ℕ). take k l) long rest ∙ take-append-seam p (s .after); long = long; kind = byte 1 (omega (arith, s .begins .two)) }
+    record { is = ap₂ (λ (k : ℕ) (l : List ℕ). take k l) long rest ∙ take-append-seam p (s .after); long = long; type-byte = byte 1 (omega (arith, s .begins .two)) }
 
 -- So the walk comes to its type.
-standing : (b : List ℕ) (at : ℕ) (p : List ℕ) → Accepted b → Stands b at p → walkOf b at ≡ descriptorAt b at
+standing : (b : List ℕ) (at : ℕ) (p : List ℕ) → Accepted b → Stands b at p → walkOf b at ≡ typedAnswer b at
 standing b at p a s =
     let t = part-there b at p s in
     before-end b at a (omega (arith, s .begins .two, s .within))
@@ -171,14 +171,14 @@ only b at w (tooShort a h n e) = e ∙ sym (before-end b at a h ∙ rw (lt-ltb (
 only b at w (runsPast a h two n e) = e ∙ sym (before-end b at a h ∙ rw (le-ltb (getD b at 0) 2 (omega (arith, two)), lt-ltb (totalOf b) (at + getD b at 0) n))
 only b at w (shortEndpoint a p s k n e) =
     let t = part-there b at p s in
-    e ∙ sym (standing b at p a s ∙ rw (eq-eqb (getD b (at + 1) 0) 5 (t .kind ∙ k), lt-ltb (getD b at 0) 7 (omega (arith, n, t .long))))
+    e ∙ sym (standing b at p a s ∙ rw (eq-eqb (getD b (at + 1) 0) 5 (t .type-byte ∙ k), lt-ltb (getD b at 0) 7 (omega (arith, n, t .long))))
 only b at w (anotherType a p s k e) =
     let t = part-there b at p s in
-    e ∙ sym (standing b at p a s ∙ rw (ne-eqb (getD b (at + 1) 0) 5 (λ x. k (sym (t .kind) ∙ x)), t .is))
+    e ∙ sym (standing b at p a s ∙ rw (ne-eqb (getD b (at + 1) 0) 5 (λ x. k (sym (t .type-byte) ∙ x)), t .is))
 only b at w (anEndpoint a p s k n e) =
     let t = part-there b at p s in
     let long : 7 ≤ getD b at 0 = omega (arith, n, t .long) in
-    let read : descriptorAt b at ≡ endpoint (partAt b at) (fieldsAt b at) = rw (eq-eqb (getD b (at + 1) 0) 5 (t .kind ∙ k), le-ltb (getD b at 0) 7 long) in
+    let read : typedAnswer b at ≡ endpoint (partAt b at) (fieldsAt b at) = rw (eq-eqb (getD b (at + 1) 0) 5 (t .type-byte ∙ k), le-ltb (getD b at 0) 7 long) in
     e ∙ sym (standing b at p a s ∙ read ∙ ap (endpoint (partAt b at)) (fields b at long) ∙ ap (λ (q : List ℕ). endpoint q (fieldsIn q)) (t .is))
 
 -- An answer other than the end.
@@ -202,4 +202,4 @@ end-only b at e = go (walkOf b at) e (deserved b at)
     go w e (anEndpoint a p s k n f) = absurd (subst Other (sym f ∙ e) tt)
 
 pub answers : Answers
-answers = record { deserved = deserved; only = only; end-from = end-from; end-only = end-only }
+answers = record { total = λ first second third fourth rest. refl; deserved = deserved; only = only; end-from = end-from; end-only = end-only }

@@ -15,7 +15,7 @@ use Rattle.descriptor.specs.declared.walk.WalkAnswer.{WalkAnswer}
 use Rattle.descriptor.specs.declared.walk.WalkAnswer.the-variants.{Descriptor, Endpoint, End, Refused}
 use Rattle.descriptor.specs.Walk.{Walked, descriptor, endpoint, end, refused, partAt, walkOf, partOf}
 use Rattle.descriptor.specs.Reply.{numberOf, typeNumber, walkReply, OneAnswer}
-use Rattle.descriptor.specs.Whole.{Hands}
+use Rattle.descriptor.specs.Whole.{Hands, Last, OnePart}
 use Rattle.descriptor.proofs.Answered.{part-there}
 use Rattle.descriptor.proofs.Walking.{handed}
 
@@ -70,6 +70,21 @@ none-at-end b at r d e = ap partOf (subst (Right b at) d e)
 -- It is a refusal.
 pub none-refused : (b : List ℕ) (at : ℕ) (r : WalkAnswer) (why : Refusal) → r ≡ Refused why → Right b at r → [] ≡ partOf (walkOf b at)
 none-refused b at r why d e = ap partOf (subst (Right b at) d e)
+
+part-handed : (w : Walked) (p : List ℕ) → Hands w p → partOf w ≡ p
+part-handed (descriptor q) p h = h
+part-handed (endpoint q e) p h = h
+part-handed end p h = absurd h
+part-handed (refused n) p h = absurd h
+
+part-none : (w : Walked) → Last w → partOf w ≡ []
+part-none (descriptor q) l = absurd l
+part-none (endpoint q e) l = absurd l
+part-none end l = refl
+part-none (refused n) l = refl
+
+pub one-part : OnePart
+one-part = record { handed = part-handed; none = part-none }
 
 -- ---- no two answers have one reply
 

@@ -96,7 +96,7 @@ finds-one b at (p ∷ ps) (q ∷ qs) v w f g =
     let rest = finds-one b (at + length p) ps qs v w (f .1) (subst (λ (x : List ℕ). Finds b (at + length x) qs w) (sym same) (g .1)) in
     (ap₂ (λ (x : List ℕ) (xs : List (List ℕ)). x ∷ xs) same (rest .0), rest .1)
 
-finds-few : (b : List ℕ) (at : ℕ) (ps : List (List ℕ)) (w : Walked) → Finds b at ps w → at ≤ length b → at + 2 * length ps ≤ length b
+finds-few : (b : List ℕ) (at : ℕ) (ps : List (List ℕ)) (w : Walked) → Finds b at ps w → at ≤ totalOf b → at + 2 * length ps ≤ totalOf b
 finds-few b at [] w f h = omega (arith, h)
 finds-few b at (p ∷ ps) w f h =
     let i = inside b at p (handed b at p (f .0)) in

@@ -1,7 +1,7 @@
--- Which answer bytes and a position deserve, each number by its condition. Nothing here names the walk's definition but the last record.
+-- Which answer bytes and a position deserve, each number by its condition. Nothing here but the last record names the walk's definition; `totalOf` is held to the bytes there.
 use mathlib.Core.Path.{_≡_}
 use mathlib.Core.Logic.{_⊎_}
-use mathlib.Core.List.{List, _++_}
+use mathlib.Core.List.{List, _∷_, _++_}
 use Prim.Native.Nat.{ℕ, _+_, _*_, _%_, _≤_, _<_}
 use lib.ListN.{length, getD}
 use Rattle.descriptor.specs.Walk.{Walked, descriptor, endpoint, end, refused, totalOf, walkOf}
@@ -54,6 +54,8 @@ pub data Deserves (b : List ℕ) (at : ℕ) (w : Walked) : Type 0 where
 
 -- The walk answers what is deserved, and nothing else is deserved.
 pub record Answers : Type 0 where
+  -- wTotalLength is the third and the fourth byte, the low one first, all 16 bits.
+  pub total : (first second third fourth : ℕ) (rest : List ℕ) → totalOf (first ∷ second ∷ third ∷ fourth ∷ rest) ≡ third + 256 * fourth
   pub deserved : (b : List ℕ) (at : ℕ) → Deserves b at (walkOf b at)
   pub only : (b : List ℕ) (at : ℕ) (w : Walked) → Deserves b at w → w ≡ walkOf b at
   -- The end is answered exactly from wTotalLength on.

@@ -24,7 +24,7 @@ pub record Rows : Type 0 where
   pub device : walkOf (9 ∷ 1 ∷ 9 ∷ 0 ∷ 0 ∷ 0 ∷ 0 ∷ 0 ∷ 0 ∷ []) 0 ≡ refused 24
   -- 23 for wTotalLength, whatever the position
   pub zero-total : walkOf (config 0 []) 0 ≡ refused 23
-  pub below : walkOf (config 8 []) 0 ≡ refused 23
+  pub below : walkOf (config 8 []) 8 ≡ refused 23
   pub above : walkOf (config 10 []) 0 ≡ refused 23
   pub most : walkOf (long 0xFF 0xFF []) 0xFFFF ≡ refused 23
   -- the configuration descriptor itself, whatever its bLength, and the end
@@ -32,13 +32,14 @@ pub record Rows : Type 0 where
   pub of-two : walkOf (2 ∷ 2 ∷ 9 ∷ 0 ∷ 1 ∷ 1 ∷ 0 ∷ 0 ∷ 0 ∷ []) 0 ≡ descriptor (2 ∷ 2 ∷ [])
   pub over : walkOf (config 9 []) 9 ≡ end
   pub ignored : walkOf (config 9 (0 ∷ [])) 9 ≡ end
+  pub wide : walkOf (config 9 []) 0x1_0000 ≡ end
   pub far : walkOf (config 9 []) 0xFFFF_FFFF_FFFF_FFFF ≡ end
   -- wTotalLength 0x109, of 265 bytes
   pub last : walkOf (long 9 1 (replicate 256 2)) 264 ≡ refused 23
   pub full : walkOf (long 9 1 (replicate 256 2)) 265 ≡ end
   -- 22, then 23, at a descriptor
-  pub empty : walkOf (config 10 (0 ∷ [])) 9 ≡ refused 22
-  pub none : walkOf (config 10 (1 ∷ [])) 9 ≡ refused 22
+  pub zero : walkOf (config 10 (0 ∷ [])) 9 ≡ refused 22
+  pub one : walkOf (config 10 (1 ∷ [])) 9 ≡ refused 22
   pub past : walkOf (config 10 (2 ∷ [])) 9 ≡ refused 23
   pub past-total : walkOf (config 10 (2 ∷ 4 ∷ [])) 9 ≡ refused 23
   pub two : walkOf (config 11 (2 ∷ 4 ∷ [])) 9 ≡ descriptor (2 ∷ 4 ∷ [])
@@ -70,11 +71,12 @@ rows = record {
   of-two = refl;
   over = refl;
   ignored = refl;
+  wide = refl;
   far = refl;
   last = refl;
   full = refl;
-  empty = refl;
-  none = refl;
+  zero = refl;
+  one = refl;
   past = refl;
   past-total = refl;
   two = refl;

@@ -32,25 +32,25 @@ abbrev pub fieldsAt : List ℕ → ℕ → EndpointFields
 fieldsAt b at = record { address = getD b (at + 2) 0; transferType = getD b (at + 3) 0 % 4; maxPacketSize = getD b (at + 4) 0 + 256 * getD b (at + 5) 0; interval = getD b (at + 6) 0 }
 
 -- "then with 22 an endpoint's below 7"
-abbrev pub endpointAt : List ℕ → ℕ → Walked
-endpointAt b at = cond (ltb (getD b at 0) 7) (refused 22) (endpoint (partAt b at) (fieldsAt b at))
+abbrev pub endpointAnswer : List ℕ → ℕ → Walked
+endpointAnswer b at = cond (ltb (getD b at 0) 7) (refused 22) (endpoint (partAt b at) (fieldsAt b at))
 
 -- bDescriptorType, the second byte, is 5 for an endpoint (table 9-5).
-abbrev pub descriptorAt : List ℕ → ℕ → Walked
-descriptorAt b at = cond (eqb (getD b (at + 1) 0) 5) (endpointAt b at) (descriptor (partAt b at))
+abbrev pub typedAnswer : List ℕ → ℕ → Walked
+typedAnswer b at = cond (eqb (getD b (at + 1) 0) 5) (endpointAnswer b at) (descriptor (partAt b at))
 
 -- "at each descriptor with 22 a bLength below 2, then with 23 one that runs past wTotalLength"
-abbrev pub foundAt : List ℕ → ℕ → Walked
-foundAt b at =
+abbrev pub insideAnswer : List ℕ → ℕ → Walked
+insideAnswer b at =
     cond (ltb (getD b at 0) 2) (refused 22)
-    (cond (ltb (totalOf b) (at + getD b at 0)) (refused 23) (descriptorAt b at))
+    (cond (ltb (totalOf b) (at + getD b at 0)) (refused 23) (typedAnswer b at))
 
 -- "It refuses with 24 fewer than 9 bytes or a second byte other than 2, then with 23 a wTotalLength below 9 or above the bytes lent"; "From wTotalLength on it answers end."
 unfoldable pub walkOf : List ℕ → ℕ → Walked
 walkOf b at =
     cond (ltb (length b) 9 || not (eqb (getD b 1 0) 2)) (refused 24)
     (cond (ltb (totalOf b) 9 || ltb (length b) (totalOf b)) (refused 23)
-    (cond (leb (totalOf b) at) end (foundAt b at)))
+    (cond (leb (totalOf b) at) end (insideAnswer b at)))
 
 -- The descriptor's bytes, none where none is found.
 abbrev pub partOf : Walked → List ℕ

@@ -3,7 +3,7 @@ use mathlib.Core.Path.{_≡_}
 use mathlib.Core.List.{List, [], _∷_, _++_}
 use Prim.Native.Nat.{ℕ, _+_, _*_, _≤_}
 use lib.ListN.{length, take, getD}
-use Rattle.descriptor.specs.Walk.{Walked, descriptor, endpoint, end, refused, totalOf, walkOf}
+use Rattle.descriptor.specs.Walk.{Walked, descriptor, endpoint, end, refused, totalOf, walkOf, partOf}
 use Rattle.descriptor.specs.Answers.{Accepted, Begins}
 
 -- ---- descriptors one after another, without the walk
@@ -39,6 +39,11 @@ Last (endpoint q e) = ⊥
 Last end = Unit {0}
 Last (refused n) = Unit {0}
 
+-- What `descriptor_at` hands out: the descriptor's bytes, and none where the answer hands none back.
+pub record OnePart : Type 0 where
+  pub handed : (w : Walked) (p : List ℕ) → Hands w p → partOf w ≡ p
+  pub none : (w : Walked) → Last w → partOf w ≡ []
+
 -- From a position on the walk finds these descriptors and then has this last answer.
 abbrev pub Finds : List ℕ → ℕ → List (List ℕ) → Walked → Type 0
 Finds b at [] w = (walkOf b at ≡ w) × Last w
@@ -56,9 +61,9 @@ pub record WholeWalk : Type 0 where
   pub walk : (b : List ℕ) → WalkOver b
   -- .. which is one, as are the descriptors found.
   pub one : (b : List ℕ) (x y : WalkOver b) → (x .found ≡ y .found) × (x .last ≡ y .last)
-  -- There are at most half as many descriptors as bytes.
-  pub few : (b : List ℕ) (x : WalkOver b) → 2 * length (x .found) ≤ length b
-  -- Each begins with its own length.
+  -- There are at most half as many descriptors as wTotalLength says bytes.
+  pub few : (b : List ℕ) (x : WalkOver b) → 2 * length (x .found) ≤ totalOf b
+  -- Each begins with its own length, at least 2, an endpoint's at least 7.
   pub each : (b : List ℕ) (x : WalkOver b) → AllDescriptors (x .found)
   -- One after the other they are the first bytes ..
   pub first : (b : List ℕ) (x : WalkOver b) → joined (x .found) ≡ take (length (joined (x .found))) b

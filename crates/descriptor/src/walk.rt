@@ -3,7 +3,7 @@ use crate::refusal::Refusal;
 ghost use mathlib.Core.Path.{_≡_};
 ghost use Prim.Native.Nat.{_+_, _*_, _%_, _≤_, _<_};
 ghost use lib.ListN.{length, getD};
-ghost use Rattle.descriptor.specs.Walk.{partAt, endpointAt, foundAt, totalOf, walkOf, partOf};
+ghost use Rattle.descriptor.specs.Walk.{partAt, endpointAnswer, insideAnswer, totalOf, walkOf, partOf};
 ghost use Rattle.descriptor.specs.Reply.{typeNumber, walkReply};
 
 // An endpoint's transfer type.
@@ -52,9 +52,9 @@ fn kind_of(attributes: u8) -> EndpointKind
 }
 
 // An endpoint descriptor of n bytes, all of them lent.
-fn endpoint_at(bytes: &[u8], at: usize, n: usize) -> WalkAnswer
+fn endpoint_answer(bytes: &[u8], at: usize, n: usize) -> WalkAnswer
     requires { ⌜ (at + n ≤ length (now bytes)) × (n ≡ getD (now bytes) at 0) ⌝ }
-    ensures { λ r. ⌜ walkReply r (partAt (now (bytes .entry)) at) ≡ endpointAt (now (bytes .entry)) at ⌝ }
+    ensures { λ r. ⌜ walkReply r (partAt (now (bytes .entry)) at) ≡ endpointAnswer (now (bytes .entry)) at ⌝ }
 {
     if n < 7 {
         return WalkAnswer::Refused(Refusal::Length);
@@ -68,9 +68,9 @@ fn endpoint_at(bytes: &[u8], at: usize, n: usize) -> WalkAnswer
 }
 
 // At a position before wTotalLength.
-fn found_at(bytes: &[u8], total: usize, at: usize) -> WalkAnswer
+fn inside_answer(bytes: &[u8], total: usize, at: usize) -> WalkAnswer
     requires { ⌜ (total ≤ length (now bytes)) × (at < total) × (total ≡ totalOf (now bytes)) ⌝ }
-    ensures { λ r. ⌜ walkReply r (partAt (now (bytes .entry)) at) ≡ foundAt (now (bytes .entry)) at ⌝ }
+    ensures { λ r. ⌜ walkReply r (partAt (now (bytes .entry)) at) ≡ insideAnswer (now (bytes .entry)) at ⌝ }
 {
     let n = bytes[at] as usize;
     if n < 2 {
@@ -80,7 +80,7 @@ fn found_at(bytes: &[u8], total: usize, at: usize) -> WalkAnswer
         return WalkAnswer::Refused(Refusal::TotalLength);
     }
     if bytes[at + 1] == ENDPOINT {
-        return endpoint_at(bytes, at, n);
+        return endpoint_answer(bytes, at, n);
     }
     WalkAnswer::Descriptor
 }
@@ -105,7 +105,7 @@ pub fn answer_at(bytes: &[u8], at: usize) -> WalkAnswer
     if total <= at {
         return WalkAnswer::End;
     }
-    found_at(bytes, total, at)
+    inside_answer(bytes, total, at)
 }
 
 // The bytes of the descriptor at a position, all of them lent.

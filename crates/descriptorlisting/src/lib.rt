@@ -5,7 +5,7 @@ use descriptor::walk::EndpointKind;
 use descriptor::walk::WalkAnswer;
 use descriptor::walk::answer_at;
 use descriptor::walk::descriptor_at;
-use input::whole::is_longer;
+use input::whole::is_too_long;
 use libc::STDOUT_FILENO;
 use printing::print_byte;
 use printing::print_end;
@@ -25,14 +25,14 @@ pub enum Turn {
 }
 
 // A space, `0x` and two digits.
-fn print_hex(b: u8) {
+fn print_hex_byte(b: u8) {
     print_text(b" 0x");
     print_byte(b);
 }
 
 // bDescriptorType by its name in USB 2.0 table 9-5.
-fn print_type(kind: u8) {
-    match kind {
+fn print_type(descriptor_type: u8) {
+    match descriptor_type {
         1 => print_text(b" device"),
         2 => print_text(b" configuration"),
         3 => print_text(b" string"),
@@ -41,7 +41,7 @@ fn print_type(kind: u8) {
         6 => print_text(b" device_qualifier"),
         7 => print_text(b" other_speed_configuration"),
         8 => print_text(b" interface_power"),
-        _ => print_hex(kind),
+        _ => print_hex_byte(descriptor_type),
     }
 }
 
@@ -73,7 +73,7 @@ fn print_kind(kind: EndpointKind) {
 }
 
 fn print_endpoint(e: Endpoint) {
-    print_hex(e.address);
+    print_hex_byte(e.address);
     print_direction(e.address);
     let kind = e.kind;
     print_kind(kind);
@@ -130,7 +130,7 @@ fn print_walk(bytes: &[u8]) {
 
 // Lists a configuration's descriptors, or says that it is too long.
 pub fn print_configuration(bytes: &[u8]) {
-    if is_longer(bytes) {
+    if is_too_long(bytes) {
         print_refused(21);
     } else {
         print_walk(bytes);

@@ -6,7 +6,7 @@ ghost use lib.Dec.{ltb};
 ghost use lib.ListN.{length, take};
 
 // "at most 65,536 bytes .. 21 if the input is longer"
-pub fn is_longer(bytes: &[u8]) -> bool
+pub fn is_too_long(bytes: &[u8]) -> bool
     ensures { λ r. ⌜ r ≡ ltb 65536 (length (now (bytes .entry))) ⌝ }
 {
     65536 < bytes.len()

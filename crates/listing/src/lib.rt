@@ -1,5 +1,5 @@
 // A record's listing on standard output, as document 01 shows it.
-use input::whole::is_longer;
+use input::whole::is_too_long;
 use printing::print_byte;
 use printing::print_end;
 use printing::print_number;
@@ -111,7 +111,7 @@ fn limited(s: &[u8]) -> CheckAnswer
     ensures { λ r. ⌜ (65536 < length (now (s .entry)) → checkReply r ≡ number 21) ⌝ }
     ensures { λ r. ⌜ (length (now (s .entry)) ≤ 65536 → Bytes (now (s .entry)) → Verdict (now (s .entry)) (checkReply r)) ⌝ }
 {
-    if is_longer(s) {
+    if is_too_long(s) {
         return CheckAnswer::Refused(Refusal::Room);
     }
     check(s)

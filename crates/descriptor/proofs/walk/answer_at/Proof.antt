@@ -51,8 +51,8 @@ returns-5 c =
     let accepted : Accepted b = record { headed = headed; nine = omega (arith, e, c .before .before .if3 .left); lent = omega (arith, e, c .before .if4 .left) } in
     only _ _ _ (atEnd accepted (omega (arith, e, c .if5 .taken)) refl)
 
-found-at-requires : tie.Need-found-at-requires
-found-at-requires c κs = (omega arith, omega arith, c .before .before .before .word .ensures)
+inside-answer-requires : tie.Need-inside-answer-requires
+inside-answer-requires c κs = (omega arith, omega arith, c .before .before .before .word .ensures)
 
 returns-6 : tie.Need-returns-6
 returns-6 c =
@@ -60,7 +60,7 @@ returns-6 c =
     let e = c .before .before .before .before .word .ensures in
     let headed : Headed b = record { nine = omega (arith, c .before .before .before .before .before .before .before .before .before .if1 .left); configuration = c .before .before .before .before .before .before .before .if2 .left } in
     let accepted : Accepted b = record { headed = headed; nine = omega (arith, e, c .before .before .before .if3 .left); lent = omega (arith, e, c .before .before .if4 .left) } in
-    reply-part (c .found-at .result) _ _ (c .found-at .ensures ∙ sym (before-end b (c .before .before .before .before .before .before .before .before .before .before .before .args .at) accepted (omega (arith, e, c .before .if5 .left))))
+    reply-part (c .inside-answer .result) _ _ (c .inside-answer .ensures ∙ sym (before-end b (c .before .before .before .before .before .before .before .before .before .before .before .args .at) accepted (omega (arith, e, c .before .if5 .left))))
 
 pub answer-at-spec : {M : Type 1} → statement M
 answer-at-spec =
@@ -76,5 +76,5 @@ answer-at-spec =
     returns-3
     returns-4
     returns-5
-    found-at-requires
+    inside-answer-requires
     returns-6)

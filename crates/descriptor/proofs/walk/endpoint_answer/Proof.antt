@@ -6,8 +6,8 @@ use lib.ListN.{getD}
 use denote.Ref.{now}
 use borrow.Author.Tests.{lt-ltb, le-ltb}
 use borrow.Author.Needs.{needs}
-use Rattle.descriptor.proofs.walk.endpoint_at.Statement.{statement}
-use Rattle.descriptor.proofs.walk.endpoint_at.Tie as tie
+use Rattle.descriptor.proofs.walk.endpoint_answer.Statement.{statement}
+use Rattle.descriptor.proofs.walk.endpoint_answer.Tie as tie
 
 returns : tie.Need-returns
 returns c =
@@ -58,8 +58,8 @@ returns-2 c =
     let size : c .before .word .result ≡ getD (now (d .args .bytes)) (d .args .at + 4) 0 + 256 * getD (now (d .args .bytes)) (d .args .at + 5) 0 = omega (arith, c .before .word .ensures) in
     rw (le-ltb _ _ enough, size, c .before .before .before .before .kind-of .ensures)
 
-pub endpoint-at-spec : {M : Type 1} → statement M
-endpoint-at-spec =
+pub endpoint-answer-spec : {M : Type 1} → statement M
+endpoint-answer-spec =
     tie.close
     (tie.spec
     returns

@@ -6,8 +6,8 @@ use denote.Ref.{now}
 use borrow.Author.Tests.{lt-ltb, le-ltb, eq-eqb, ne-eqb}
 use Rattle.descriptor.specs.Walk.{totalOf}
 use borrow.Author.Needs.{needs}
-use Rattle.descriptor.proofs.walk.found_at.Statement.{statement}
-use Rattle.descriptor.proofs.walk.found_at.Tie as tie
+use Rattle.descriptor.proofs.walk.inside_answer.Statement.{statement}
+use Rattle.descriptor.proofs.walk.inside_answer.Tie as tie
 
 shared-slice-read-n : tie.Need-shared-slice-read-n
 shared-slice-read-n c = search needs
@@ -37,15 +37,15 @@ add-if3 c = search needs
 shared-slice-read-if3 : tie.Need-shared-slice-read-if3
 shared-slice-read-if3 c = search needs
 
-endpoint-at-requires : tie.Need-endpoint-at-requires
-endpoint-at-requires c κs = search needs
+endpoint-answer-requires : tie.Need-endpoint-answer-requires
+endpoint-answer-requires c κs = search needs
 
 returns-3 : tie.Need-returns-3
 returns-3 c =
     let d = c .before .before .before .before .before .before .before in
     let within : d .args .at + getD (now (d .args .bytes)) (d .args .at) 0 ≤ totalOf (now (d .args .bytes)) = omega (arith, d .pre, c .before .before .before .if2 .left) in
     let two : 2 ≤ getD (now (d .args .bytes)) (d .args .at) 0 = omega (arith, c .before .before .before .before .if1 .left) in
-    rw (le-ltb _ _ two, le-ltb _ _ within, eq-eqb _ _ (c .before .if3 .taken)) (c .endpoint-at .ensures)
+    rw (le-ltb _ _ two, le-ltb _ _ within, eq-eqb _ _ (c .before .if3 .taken)) (c .endpoint-answer .ensures)
 
 returns-4 : tie.Need-returns-4
 returns-4 c =
@@ -54,8 +54,8 @@ returns-4 c =
     let two : 2 ≤ getD (now (d .args .bytes)) (d .args .at) 0 = omega (arith, c .before .before .before .if1 .left) in
     rw (le-ltb _ _ two, le-ltb _ _ within, ne-eqb _ _ (c .if3 .left))
 
-pub found-at-spec : {M : Type 1} → statement M
-found-at-spec =
+pub inside-answer-spec : {M : Type 1} → statement M
+inside-answer-spec =
     tie.close
     (tie.spec
     shared-slice-read-n
@@ -65,6 +65,6 @@ found-at-spec =
     returns-2
     add-if3
     shared-slice-read-if3
-    endpoint-at-requires
+    endpoint-answer-requires
     returns-3
     returns-4)
