@@ -1,5 +1,8 @@
-//! `oracle compare`: random scripts, played here and by another program.
+//! `oracle compare`, `oracle compare-descriptors`: random input, played here and by
+//! another program.
 
+use crate::configurations::Configurations;
+use crate::descriptors;
 use crate::generate::{generate, Kind};
 use crate::replay;
 use crate::script::DeskRule;
@@ -9,6 +12,9 @@ use std::thread;
 
 /// At most this many driver calls are asked of one script.
 const RUN: u64 = 50_000;
+
+/// As many configurations as one input has.
+const CONFIGURATIONS: u64 = 1_000;
 
 /// Plays scripts of every kind, from `seed` on, until there were `calls` calls. Stops at
 /// the first difference and answers whether there was none.
@@ -30,7 +36,7 @@ pub fn compare(
             let mut script = Vec::new();
             let played = generate(seed, run, kind, rule, &mut script)?;
             let what = format!("{} {seed}: {played} calls", kind.name());
-            if let Some(difference) = difference(program, &script)? {
+            if let Some(difference) = played_difference(program, &script)? {
                 writeln!(out, "{what}, different\n{difference}")?;
                 return Ok(false);
             }
@@ -42,13 +48,45 @@ pub fn compare(
     unreachable!("seeds don't end")
 }
 
-/// The first difference between the Rust and the program on a script, told in words.
-fn difference(program: &str, script: &[u8]) -> io::Result<Option<String>> {
+/// Prints random configurations' walks, from `seed` on, until there were as many as asked
+/// for. Stops at the first difference and answers whether there was none.
+pub fn compare_descriptors(
+    program: &str,
+    seed: u64,
+    configurations: u64,
+    out: &mut impl Write,
+) -> io::Result<bool> {
+    for run in 0..configurations.div_ceil(CONFIGURATIONS) {
+        let mut random = Configurations::new(seed + run);
+        let lines: String = (0..CONFIGURATIONS).map(|_| random.line()).collect();
+        let mut expected = Vec::new();
+        descriptors::print(lines.as_bytes(), &mut expected)?;
+        if let Some(difference) = difference(program, lines.as_bytes(), &expected)? {
+            writeln!(out, "seed {}, different\n{difference}", seed + run)?;
+            return Ok(false);
+        }
+    }
+    let total = configurations.next_multiple_of(CONFIGURATIONS);
+    writeln!(out, "{total} configurations, 0 differences")?;
+    Ok(true)
+}
+
+fn played_difference(program: &str, script: &[u8]) -> io::Result<Option<String>> {
     let mut expected = Vec::new();
     replay(script, &mut expected)?;
+    difference(program, script, &expected)
+}
+
+/// The first difference between what is expected and what the program makes of the
+/// input, told in words.
+fn difference(
+    program: &str,
+    script: &[u8],
+    expected: &[u8],
+) -> io::Result<Option<String>> {
     let found = played_by(program, script)?;
     Ok(if expected != found.stdout {
-        Some(first_difference(script, &expected, &found.stdout))
+        Some(first_difference(script, expected, &found.stdout))
     } else if !found.status.success() {
         Some(format!("the program ended with {}", found.status))
     } else {
@@ -135,9 +173,11 @@ mod tests {
 
     #[test]
     fn a_program_that_answers_otherwise_is_found() {
-        assert!(difference("cat", b"close 1\n").unwrap().is_some());
-        assert!(difference("cat", b"# nothing to play").unwrap().is_some());
-        assert!(difference("false", b"").unwrap().is_some());
-        assert!(difference("cat", b"").unwrap().is_none());
+        assert!(played_difference("cat", b"close 1\n").unwrap().is_some());
+        assert!(played_difference("cat", b"# nothing to play")
+            .unwrap()
+            .is_some());
+        assert!(played_difference("false", b"").unwrap().is_some());
+        assert!(played_difference("cat", b"").unwrap().is_none());
     }
 }

@@ -5,6 +5,8 @@
 mod bench;
 mod bus;
 mod compare;
+mod configurations;
+mod descriptors;
 mod driver;
 mod generate;
 mod lent_buffer;
@@ -100,6 +102,8 @@ const USAGE: &str = "usage: oracle < SCRIPT
        oracle gen SEED CALLS well|hostile|edge|mangled [RULE]
        oracle vectors
        oracle compare REPLAY SEED CALLS [RULE]
+       oracle descriptors < LINES
+       oracle compare-descriptors DESCRIPTORCASES SEED CONFIGURATIONS
        oracle bench < LETTERS (with the feature lean)";
 
 fn main() -> ExitCode {
@@ -133,6 +137,12 @@ fn run(arguments: &[&str]) -> Option<io::Result<bool>> {
         ["compare", program, seed, calls, ref rule @ ..] => {
             let (seed, calls) = (seed.parse().ok()?, calls.parse().ok()?);
             compare::compare(program, seed, calls, desk_rule(rule)?, &mut out)
+        }
+        ["descriptors"] => descriptors::print(io::stdin().lock(), out).map(|()| true),
+        ["compare-descriptors", program, seed, configurations] => {
+            let (seed, configurations) =
+                (seed.parse().ok()?, configurations.parse().ok()?);
+            compare::compare_descriptors(program, seed, configurations, &mut out)
         }
         #[cfg(feature = "lean")]
         ["bench"] => bench::bench(io::stdin().lock(), &mut out).map(|()| true),

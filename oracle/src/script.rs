@@ -322,7 +322,7 @@ fn number(word: &str, most: u64) -> Read<u64> {
     }
 }
 
-fn bytes(word: &str) -> Read<Vec<u8>> {
+pub fn bytes(word: &str) -> Read<Vec<u8>> {
     if word == "-" {
         return Ok(Vec::new());
     }

@@ -65,6 +65,15 @@ fn unreadable_lines() {
     check("unreadable");
 }
 
+/// The stored output of `descriptorcases` is what the oracle prints.
+#[test]
+fn stored_configurations() {
+    let stored = Path::new(env!("CARGO_MANIFEST_DIR")).join("../crates/descriptorcases");
+    let output = oracle(&["descriptors"], &stored.join("stdin"));
+    assert!(output.status.success());
+    assert_eq!(output.stdout, fs::read(stored.join("stdout")).unwrap());
+}
+
 /// A last line without LF is a line.
 #[test]
 fn last_line_without_end() {
@@ -88,6 +97,8 @@ fn bad_arguments_are_refused() {
         &["vectors", "1"],
         &["compare", "cat", "1"],
         &["compare", "cat", "1", "x"],
+        &["compare-descriptors", "cat", "1"],
+        &["descriptors", "1"],
         &["play"],
     ] {
         assert_eq!(oracle(arguments, &script).status.code(), Some(2));

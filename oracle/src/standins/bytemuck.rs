@@ -1,5 +1,6 @@
-//! `bytemuck`, as far as wire.rs needs it to compile. Parsing of descriptors is left
-//! out of the port, and nothing here calls it.
+//! `bytemuck`, as far as wire.rs needs it.
+
+use std::mem::{align_of, size_of};
 
 /// # Safety
 /// As in the crate: all zero bytes make a value.
@@ -9,6 +10,12 @@ pub unsafe trait Zeroable {}
 /// As in the crate: any bytes make a value.
 pub unsafe trait Pod: Zeroable {}
 
-pub fn try_from_bytes<T: Pod>(_bytes: &[u8]) -> Result<&T, ()> {
-    unimplemented!("descriptor parsing is no part of the oracle")
+/// Bytes of another length or alignment than the value's are refused, as in the crate.
+pub fn try_from_bytes<T: Pod>(bytes: &[u8]) -> Result<&T, ()> {
+    let is_aligned = bytes.as_ptr() as usize % align_of::<T>() == 0;
+    if bytes.len() != size_of::<T>() || !is_aligned {
+        return Err(());
+    }
+    // SAFETY: length and alignment are the value's, and any bytes make one.
+    Ok(unsafe { &*bytes.as_ptr().cast() })
 }

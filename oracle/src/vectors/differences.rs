@@ -5,6 +5,9 @@ use std::io::{self, Write};
 
 const TABLES: &str = include_str!("../../../docs/DIFFERENCES.md");
 
+/// An input that begins so is no script.
+const DESCRIPTORS: &str = "descriptors ";
+
 struct Row {
     number: &'static str,
     /// What is in code type under "here".
@@ -12,16 +15,23 @@ struct Row {
     here: Vec<&'static str>,
     /// In code type under "smallest input".
     scripts: Vec<&'static str>,
+    /// The lines of `descriptorcases` there.
+    #[cfg_attr(not(test), allow(dead_code))]
+    configurations: Vec<&'static str>,
 }
 
 fn rows() -> impl Iterator<Item = Row> {
     let is_row = |line: &&str| line.starts_with("| ") && !line.starts_with("| #");
     TABLES.lines().filter(is_row).map(|line| {
         let cells: Vec<&str> = line.trim_matches('|').split('|').collect();
+        let (configurations, scripts) = in_code_type(cells[cells.len() - 1])
+            .into_iter()
+            .partition(|input| input.starts_with(DESCRIPTORS));
         Row {
             number: cells[0].trim(),
             here: in_code_type(cells[3]),
-            scripts: in_code_type(cells[cells.len() - 1]),
+            scripts,
+            configurations,
         }
     })
 }
@@ -50,6 +60,7 @@ mod tests {
     use super::*;
     use crate::async_pool::{self, Pool};
     use crate::bitset::BitSet;
+    use crate::descriptors;
     use crate::driver::{Answer, Driver};
     use crate::host_controller::{DeviceStatus, TransferType, UsbSpeed};
     use crate::rp2040::view::first_at_0;
@@ -60,7 +71,7 @@ mod tests {
     fn every_script_answers_as_its_row_says() {
         let mut without = Vec::new();
         for row in rows() {
-            if row.scripts.is_empty() {
+            if row.scripts.is_empty() && row.configurations.is_empty() {
                 without.push(row.number);
             }
             for script in row.scripts {
@@ -80,6 +91,26 @@ mod tests {
             }
         }
         assert_eq!(without, ["1", "2", "3", "5", "15", "22"]);
+    }
+
+    /// The walk of each configuration prints a line that its row names, and the Rust's
+    /// own walk of all its bytes reports something else.
+    #[test]
+    fn every_configuration_is_walked_as_its_row_says() {
+        let stored = include_str!("../../../crates/descriptorcases/stdin");
+        let mut count = 0;
+        for row in rows() {
+            for input in row.configurations {
+                let line = input.strip_prefix(DESCRIPTORS).unwrap();
+                assert!(stored.lines().any(|stored| stored == line), "{line}");
+                let here = descriptors::case(line.as_bytes());
+                let named = here.lines().any(|line| row.here.contains(&line));
+                assert!(named, "{}: {line}\n{here}", row.number);
+                assert_ne!(here, descriptors::rust_case(line.as_bytes()));
+                count += 1;
+            }
+        }
+        assert_eq!(count, 10);
     }
 
     #[test]
