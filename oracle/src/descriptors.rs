@@ -19,7 +19,7 @@ pub fn print(lines: impl BufRead, mut out: impl Write) -> io::Result<()> {
     for line in lines.split(b'\n') {
         let line = line?;
         if !line.is_empty() && line[0] != b'#' {
-            write!(out, "{}.\n", case(&line))?;
+            writeln!(out, "{}.", case(&line))?;
         }
     }
     out.flush()
@@ -63,18 +63,19 @@ fn walked(configuration: &[u8]) -> String {
             Ok(Some(descriptor)) => {
                 let line = reports.remove(&at);
                 let is_last = at + descriptor.len() == configuration.len();
-                assert_eq!(line.is_none(), is_left_out(descriptor, is_last));
+                let is_reported = !is_left_out(descriptor, is_last);
+                assert_eq!(line.is_some(), is_reported, "{configuration:02x?}");
                 text += &line.unwrap_or_else(|| plain(at, descriptor));
                 text += "\n";
                 at += descriptor.len();
                 count += 1;
             }
             Ok(None) => {
-                assert!(reports.is_empty());
+                assert!(reports.is_empty(), "{configuration:02x?}");
                 return text + &format!("end {count}\n");
             }
             Err((number, goes_on)) => {
-                assert!(reports.is_empty() || goes_on);
+                assert!(reports.is_empty() || goes_on, "{configuration:02x?}");
                 return text + &format!("refused {number}\n");
             }
         }
