@@ -5,7 +5,7 @@ use descriptor::walk::EndpointKind;
 use descriptor::walk::WalkAnswer;
 use descriptor::walk::answer_at;
 use descriptor::walk::descriptor_at;
-use input::whole::is_too_long;
+use input::is_too_long;
 use libc::STDOUT_FILENO;
 use printing::print_byte;
 use printing::print_end;

@@ -1,5 +1,5 @@
 // A record's listing on standard output, as document 01 shows it.
-use input::whole::is_too_long;
+use input::is_too_long;
 use printing::print_byte;
 use printing::print_end;
 use printing::print_number;

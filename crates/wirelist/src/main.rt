@@ -1,6 +1,6 @@
 // Lists the record on standard input.
-use input::whole::first;
-use input::whole::read_input;
+use input::first;
+use input::read_input;
 use listing::print_record;
 
 fn main() {

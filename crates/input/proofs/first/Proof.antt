@@ -4,8 +4,8 @@ use native.Mathlib.Omega.{arith}
 use lib.Seq.{length-take-le, take-all}
 use borrow.Author.Needs.{needs}
 use denote.Ref.{now}
-use Rattle.input.proofs.whole.first.Statement.{statement}
-use Rattle.input.proofs.whole.first.Tie as tie
+use Rattle.input.proofs.first.Statement.{statement}
+use Rattle.input.proofs.first.Tie as tie
 
 slice-aggregate-result : tie.Need-slice-aggregate-result
 slice-aggregate-result c = sym (length-take-le _ _ (omega arith))
