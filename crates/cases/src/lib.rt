@@ -1,4 +1,6 @@
 // Lists many inputs, the cases: standard input has one a line, as the replay script's BYTES. Empty lines and lines that begin with # are skipped.
+use capture::Form;
+use capture::print_capture;
 use descriptorlisting::print_configuration;
 use input::first;
 use libc::STDIN_FILENO;
@@ -7,17 +9,20 @@ use printing::print_text;
 use script::bytes::OptionCount;
 use script::bytes::bytes;
 use script::field::end_of;
+use script::line::is_skipped;
 
 // What the inputs are.
 pub enum Kind {
     Records,
     Configurations,
+    Packets,
 }
 
 fn print_listing(kind: Kind, bytes: &[u8]) {
     match kind {
         Kind::Records => print_record(bytes),
         Kind::Configurations => print_configuration(bytes),
+        Kind::Packets => print_capture(Form::Lines, bytes),
     }
 }
 
@@ -32,10 +37,7 @@ fn print_case(kind: Kind, line: &[u8], room: &mut [u8; 131072]) {
 }
 
 fn print_line(kind: Kind, line: &[u8], room: &mut [u8; 131072]) {
-    if line.len() == 0 {
-        return;
-    }
-    if line[0] != b'#' {
+    if !is_skipped(line) {
         print_case(kind, line, room);
     }
 }

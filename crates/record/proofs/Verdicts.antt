@@ -561,7 +561,7 @@ plain-true [] h p = tt
 plain-true (entry e ∷ ms) h p = ((h .0 .0, tt), plain-true ms (h .1) p)
 plain-true (failedEntry m ∷ ms) h p = absurd p
 
-reads-ranged : (two : Bool) (ms : List Element) → Reads two ms → AllRanged two ms
+pub reads-ranged : (two : Bool) (ms : List Element) → Reads two ms → AllRanged two ms
 reads-ranged true ms r = let k = r .reading in subst (AllRanged true) (k .is) (elements-ranged (k .segments) (k .last) (k .segments-fit) (k .last-fit))
 reads-ranged false ms r =
     let k = r .reading in

@@ -129,7 +129,7 @@ fn look_failed(s: &[u8], at: usize) -> Look
 }
 
 // The entry at a position.
-pub(crate) fn look_at(s: &[u8], at: usize) -> Look
+pub fn look_at(s: &[u8], at: usize) -> Look
     ensures { λ r. ⌜ r ≡ look (drop at (now (s .entry))) ⌝ }
 {
     if s.len() <= at {

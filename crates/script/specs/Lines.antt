@@ -1,5 +1,5 @@
 -- What a line asks for: the table of the script's format, line by line.
-use mathlib.Core.Bool.{Bool, cond}
+use mathlib.Core.Bool.{Bool, cond, _||_}
 use mathlib.Core.List.{List, [], _∷_}
 use Prim.Native.Nat.{ℕ, _+_}
 use lib.Dec.{eqb, leb}
@@ -346,7 +346,9 @@ callOf word line out =
     (cond (sameText word word-rule) (reading (ruleOf line) out) (pipeOf word line out))))))
 
 -- "Empty lines and lines that begin with `#` are skipped."
+abbrev pub isSkipped : List ℕ → Bool
+isSkipped line = eqb (length line) 0 || eqb (getD line 0 0) 35
+
+-- What a line asks for.
 unfoldable pub lineOf : List ℕ → List ℕ → Reading
-lineOf line out =
-    cond (eqb (length line) 0) (reading Skipped out)
-    (cond (eqb (getD line 0 0) 35) (reading Skipped out) (callOf (fieldOf line 0) line out))
+lineOf line out = cond (isSkipped line) (reading Skipped out) (callOf (fieldOf line 0) line out)

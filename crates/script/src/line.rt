@@ -19,7 +19,7 @@ use crate::command::Command;
 use crate::field::same;
 use crate::typed::field;
 ghost use mathlib.Core.Path.{_≡_};
-ghost use Rattle.script.specs.Lines.{aloneOf, beginOf, pipeOf, callOf, lineOf};
+ghost use Rattle.script.specs.Lines.{aloneOf, beginOf, pipeOf, callOf, isSkipped, lineOf};
 
 fn read_alone(line: &[u8]) -> Command
     ensures { λ r. ⌜ r ≡ aloneOf (now (line .entry)) ⌝ }
@@ -102,14 +102,21 @@ fn read_call(word: &[u8], line: &[u8], out: &mut [u8; 131072]) -> Command
     read_pipe(word, line, out)
 }
 
+// Whether a line is empty or begins with `#`.
+pub fn is_skipped(line: &[u8]) -> bool
+    ensures { λ r. ⌜ r ≡ isSkipped (now (line .entry)) ⌝ }
+{
+    if line.len() == 0 {
+        return true;
+    }
+    line[0] == b'#'
+}
+
 // What a line without its LF asks for. Its BYTES come at the start of those lent, which stay as they are where it has none.
 pub fn parse(line: &[u8], out: &mut [u8; 131072]) -> Command
     ensures { λ r. ⌜ (r ≡ lineOf (now (line .entry)) (now (out .entry)) .command) × (now (out .exit) ≡ lineOf (now (line .entry)) (now (out .entry)) .stored) ⌝ }
 {
-    if line.len() == 0 {
-        return Command::Skipped;
-    }
-    if line[0] == b'#' {
+    if is_skipped(line) {
         return Command::Skipped;
     }
     read_call(field(line, 0), line, out)

@@ -45,21 +45,21 @@ pub enum OptionSetup {
 const SPACE: u8 = b' ';
 
 // How many fields a line has.
-pub(crate) fn fields(line: &[u8]) -> usize
+pub fn fields(line: &[u8]) -> usize
     ensures { λ r. ⌜ r ≡ fieldsOf (now (line .entry)) ⌝ }
 {
     parts(line, SPACE)
 }
 
 // Field number k.
-pub(crate) fn field<'a>(line: &'a [u8], k: usize) -> &'a [u8]
+pub fn field<'a>(line: &'a [u8], k: usize) -> &'a [u8]
     ensures { λ r. ⌜ now r ≡ fieldOf (now (line .entry)) k ⌝ }
 {
     part(line, SPACE, k)
 }
 
 // A number up to 255.
-pub(crate) fn byte_at(line: &[u8], k: usize) -> OptionByte
+pub fn byte_at(line: &[u8], k: usize) -> OptionByte
     ensures { λ r. ⌜ r ≡ byteAt (now (line .entry)) k ⌝ }
 {
     let f = number(field(line, k), 255);
@@ -70,7 +70,7 @@ pub(crate) fn byte_at(line: &[u8], k: usize) -> OptionByte
 }
 
 // A number up to 65,535.
-pub(crate) fn half_at(line: &[u8], k: usize) -> OptionHalf
+pub fn half_at(line: &[u8], k: usize) -> OptionHalf
     ensures { λ r. ⌜ r ≡ halfAt (now (line .entry)) k ⌝ }
 {
     let f = number(field(line, k), 65535);
@@ -103,7 +103,7 @@ pub(crate) fn bit_at(line: &[u8], k: usize) -> OptionBit
 }
 
 // A number up to `most`, as a length.
-pub(crate) fn length_at(line: &[u8], k: usize, most: u32) -> OptionCount
+pub fn length_at(line: &[u8], k: usize, most: u32) -> OptionCount
     ensures { λ r. ⌜ r ≡ lengthAt (now (line .entry)) k most ⌝ }
 {
     let f = number(field(line, k), most);
@@ -167,7 +167,7 @@ pub(crate) fn setup_at(line: &[u8], k: usize) -> OptionSetup
 }
 
 // BYTES, put at the start of those lent.
-pub(crate) fn bytes_at(line: &[u8], k: usize, out: &mut [u8; 131072]) -> OptionCount
+pub fn bytes_at(line: &[u8], k: usize, out: &mut [u8; 131072]) -> OptionCount
     ensures { λ r. ⌜ (r ≡ countAt (now (line .entry)) k) × (now (out .exit) ≡ storedAt (now (out .entry)) (now (line .entry)) k) ⌝ }
 {
     bytes(field(line, k), out)

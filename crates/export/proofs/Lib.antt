@@ -1,0 +1,4 @@
+pub mod Walking
+pub mod Putting
+pub mod Deciding
+pub mod ReadBack

@@ -1,0 +1,6 @@
+-- The root of the specification, in reading order.
+pub mod Example
+pub mod ReadsBack
+pub mod Exported
+pub mod Export
+pub mod Walk

@@ -1,0 +1,9 @@
+pub mod Table
+pub mod Entries
+pub mod Xor
+pub mod Remainders
+pub mod Written
+pub mod Answered
+pub mod RoundTrip
+pub mod Packets
+pub mod Checks
