@@ -2,15 +2,15 @@
 use mathlib.Core.Path.{_≡_, refl, ap, sym, subst, _∙_}
 use mathlib.Core.Logic.{_⊎_, inl, inr}
 use mathlib.Core.Bool.{Bool, true, false, cond, _&&_, _||_, true≢false}
-use mathlib.Core.List.{List, _∷_}
+use mathlib.Core.List.{List, _∷_, _++_}
 use Prim.Native.Nat.{ℕ, _+_, _-_, _*_, _/_, _%_, _≤_, _<_}
 use native.Mathlib.Omega.{arith}
 use lib.Dec.{eqb, leb}
 use lib.ListN.{length, take, drop, getD}
 use lib.Seq.{take-append-seam}
-use borrow.Author.Tests.{eqb-true, eq-eqb, ne-eqb, le-leb, lt-leb}
-use Rattle.packet.specs.Crc.{crc5Of, crc16Of}
-use Rattle.packet.specs.Packet.{Packet, token, sof, payload, handshake, low, checked, encode, inRange, kindOf}
+use borrow.Author.Tests.{eqb-true, eqb-false, eq-eqb, ne-eqb, le-leb, lt-leb}
+use Rattle.packet.specs.Crc.{crc5Of, crc16Of, Residual5, Residual16}
+use Rattle.packet.specs.Packet.{Packet, token, sof, payload, handshake, low, checked, encode, Bytes, inRange, kindOf}
 use Rattle.packet.specs.Reply.{result, number}
 use Rattle.packet.specs.Reading.{wordAt, elevenOf, readRest, readOf}
 use Rattle.packet.specs.Writing.{writeRow}
@@ -22,7 +22,8 @@ use Rattle.packet.specs.declared.packet.Kind.{Kind}
 use Rattle.packet.specs.declared.packet.Kind.the-variants.{Data as dataKind, Handshake as handshakeKind, Unknown as unknown}
 use Rattle.packet.proofs.Written.{sizeOf, length-encode}
 use Rattle.packet.proofs.Answered.{eleven-length, data-short, data-long}
-use Rattle.packet.proofs.RoundTrip.{low-part, address-part, endpoint-part}
+use Rattle.packet.proofs.RoundTrip.{low-part, address-part, endpoint-part, word-lt, data-back}
+use Rattle.packet.proofs.Residuals.{residual-token, token-checked, residual-data, data-checked}
 
 -- ---- writing
 
@@ -123,12 +124,20 @@ unknown-read : (x : ℕ) (l : List ℕ) → begins3 x ≡ false → begins3to67 
 unfolding readOf
 unknown-read x l f g h = ap (λ (k : Kind). readRest k l) (unknown-kind x f g h)
 
-eleven-long : (l : List ℕ) (p : Packet) → length l ≡ 2 → PacketOr27 (elevenOf l p)
-eleven-long l p n = rw (eq-eqb (length l) 2 n) (go (eqb (wordAt l 0) (checked (wordAt l 0 % 2048))))
+-- A test that passes exactly where a condition holds.
+judged : (C : Type 0) (a b : ℕ) (p : Packet) → (a ≡ b → C) → (C → a ≡ b) → PacketOr27 C (cond (eqb a b) (result p) (number 27))
+judged C a b p f g = go (eqb a b) refl
   where
-    go : (t : Bool) → PacketOr27 (cond t (result p) (number 27))
-    go true = tt
-    go false = refl
+    go : (t : Bool) → eqb a b ≡ t → PacketOr27 C (cond t (result p) (number 27))
+    go true e = f (eqb-true a b e)
+    go false e = (refl, λ h. eqb-false a b e (g h))
+
+eleven-long : (l : List ℕ) (p : Packet) → Bytes l → length l ≡ 2 → PacketOr27 (Residual5 (wordAt l 0)) (elevenOf l p)
+eleven-long l p h n =
+    let w = wordAt l 0 in
+    rw (eq-eqb (length l) 2 n)
+    (judged (Residual5 w) w (checked (w % 2048)) p
+    (λ e. subst Residual5 (sym e) (residual-token (w % 2048) (omega arith))) (token-checked w (word-lt l 0 h)))
 
 token-length : (x : ℕ) (l : List ℕ) → begins3 x ≡ true → (length l ≡ 2 → ⊥) → readOf (x ∷ l) ≡ number 26
 unfolding readOf kindOf
@@ -136,11 +145,11 @@ token-length x l e n =
     three (λ (y : ℕ). readOf (y ∷ l) ≡ number 26) x
     (eleven-length l _ n) (eleven-length l _ n) (eleven-length l _ n) (eleven-length l _ n) e
 
-token-late : (x : ℕ) (l : List ℕ) → begins3 x ≡ true → length l ≡ 2 → PacketOr27 (readOf (x ∷ l))
+token-late : (x : ℕ) (l : List ℕ) → Bytes l → begins3 x ≡ true → length l ≡ 2 → PacketOr27 (Residual5 (wordAt l 0)) (readOf (x ∷ l))
 unfolding readOf kindOf
-token-late x l e n =
-    three (λ (y : ℕ). PacketOr27 (readOf (y ∷ l))) x
-    (eleven-long l _ n) (eleven-long l _ n) (eleven-long l _ n) (eleven-long l _ n) e
+token-late x l h e n =
+    three (λ (y : ℕ). PacketOr27 (Residual5 (wordAt l 0)) (readOf (y ∷ l))) x
+    (eleven-long l _ h n) (eleven-long l _ h n) (eleven-long l _ h n) (eleven-long l _ h n) e
 
 data-wrong-length : (b : Bool) (l : List ℕ) → (length l < 2) ⊎ (66 < length l) → readRest (dataKind b) l ≡ number 26
 data-wrong-length b l (inl h) = data-short b l h
@@ -150,16 +159,22 @@ data-length : (x : ℕ) (l : List ℕ) → begins3to67 x ≡ true → (length l 
 unfolding readOf kindOf
 data-length x l e n = data-pids (λ (y : ℕ). readOf (y ∷ l) ≡ number 26) x (data-wrong-length false l n) (data-wrong-length true l n) e
 
-data-long-enough : (b : Bool) (l : List ℕ) → 2 ≤ length l → length l ≤ 66 → PacketOr27 (readRest (dataKind b) l)
-data-long-enough b l h k = rw (le-leb 2 (length l) h, le-leb (length l) 66 k) (go (eqb (wordAt l (length l - 2)) (crc16Of (take (length l - 2) l))))
-  where
-    go : (t : Bool) → PacketOr27 (cond t (result (payload b (take (length l - 2) l))) (number 27))
-    go true = tt
-    go false = refl
+data-long-enough : (b : Bool) (l : List ℕ) → Bytes l → 2 ≤ length l → length l ≤ 66 → PacketOr27 (Residual16 l) (readRest (dataKind b) l)
+data-long-enough b l h m k =
+    let n = length l - 2 in
+    let d = take n l in
+    let w = wordAt l n in
+    let back = data-back n l h (omega arith) in
+    rw (le-leb 2 (length l) m, le-leb (length l) 66 k)
+    (judged (Residual16 l) w (crc16Of d) (payload b d)
+    (λ e. subst Residual16 (ap (λ (v : ℕ). d ++ low v) (sym e) ∙ back) (residual-data d))
+    (λ e. data-checked d w (word-lt l n h) (subst Residual16 (sym back) e)))
 
-data-late : (x : ℕ) (l : List ℕ) → begins3to67 x ≡ true → 2 ≤ length l → length l ≤ 66 → PacketOr27 (readOf (x ∷ l))
+data-late : (x : ℕ) (l : List ℕ) → Bytes l → begins3to67 x ≡ true → 2 ≤ length l → length l ≤ 66 → PacketOr27 (Residual16 l) (readOf (x ∷ l))
 unfolding readOf kindOf
-data-late x l e h k = data-pids (λ (y : ℕ). PacketOr27 (readOf (y ∷ l))) x (data-long-enough false l h k) (data-long-enough true l h k) e
+data-late x l h e m k =
+    data-pids (λ (y : ℕ). PacketOr27 (Residual16 l) (readOf (y ∷ l))) x
+    (data-long-enough false l h m k) (data-long-enough true l h m k) e
 
 one-more : (h : Handshake) (l : List ℕ) → (length l ≡ 0 → ⊥) → readRest (handshakeKind h) l ≡ number 26
 one-more h l n = rw (ne-eqb (length l) 0 n)

@@ -2,6 +2,7 @@ pub mod Table
 pub mod Entries
 pub mod Xor
 pub mod Remainders
+pub mod Residuals
 pub mod Written
 pub mod Answered
 pub mod RoundTrip

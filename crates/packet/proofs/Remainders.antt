@@ -95,7 +95,7 @@ byte-by-table c x h =
     small = omega arith
 
 -- A remainder stays below the polynomial's place.
-bit-lt : (poly k c b : ℕ) → poly < 2 ^ k → c < 2 ^ k → crcBit poly c b < 2 ^ k
+pub bit-lt : (poly k c b : ℕ) → poly < 2 ^ k → c < 2 ^ k → crcBit poly c b < 2 ^ k
 bit-lt poly k c b hp hc = go (eqb (differ (c % 2) b) 1)
   where
     go : (t : Bool) → cond t (bitXor (c / 2) poly) (c / 2) < 2 ^ k

@@ -171,6 +171,10 @@ getD-byte [] h i = omega arith
 getD-byte (x ∷ l) h zero = h .0
 getD-byte (x ∷ l) h (suc i) = getD-byte l (h .1) i
 
+-- Two bytes are sixteen bits.
+pub word-lt : (l : List ℕ) (i : ℕ) → Bytes l → wordAt l i < 65536
+word-lt l i h = omega (arith, getD-byte l h i, getD-byte l h (suc i))
+
 -- A word that was checked stands in the bytes.
 word-back : (l : List ℕ) → Bytes l → length l ≡ 2 → wordAt l 0 ≡ checked (wordAt l 0 % 2048) → low (checked (wordAt l 0 % 2048)) ≡ l
 word-back l h n e = ap low (sym e) ∙ word-bytes (getD l 0 0) (getD l 1 0) (getD-byte l h 0) ∙ sym (pair l n)
@@ -201,7 +205,7 @@ write-sof x l p h b e =
     })
 
 -- Data and the two bytes after it.
-data-back : (n : ℕ) (l : List ℕ) → Bytes l → length l ≡ n + 2 → take n l ++ low (wordAt l n) ≡ l
+pub data-back : (n : ℕ) (l : List ℕ) → Bytes l → length l ≡ n + 2 → take n l ++ low (wordAt l n) ≡ l
 data-back zero l h e = word-bytes (getD l 0 0) (getD l 1 0) (getD-byte l h 0) ∙ sym (pair l e)
 data-back (suc n) [] h e = absurd (omega arith)
 data-back (suc n) (x ∷ l) h e = ap (λ (r : List ℕ). x ∷ r) (data-back n l (h .1) (omega arith))

@@ -3,7 +3,7 @@ use mathlib.Core.Path.{_≡_, refl, ap, ap₂, sym, _∙_}
 use Prim.Native.Nat.{ℕ, zero, suc, _+_, _*_, _/_, _%_, _<_}
 use native.Mathlib.Omega.{arith}
 use lib.Arith.{bin-ind}
-use lib.Bits.{differ, bitXor, xor-step, xor-comm}
+use lib.Bits.{differ, bitXor, xor-step, xor-comm, xor-zero-r, xor-self}
 
 differ-lt : (x y : ℕ) → x < 2 → y < 2 → differ x y < 2
 differ-lt zero y hx hy = hy
@@ -44,3 +44,7 @@ pub xor-pairs : (a b c d : ℕ) → bitXor (bitXor a b) (bitXor c d) ≡ bitXor 
 xor-pairs a b c d =
     xor-assoc a b (bitXor c d) ∙ ap (bitXor a) (sym (xor-assoc b c d) ∙ ap (λ (x : ℕ). bitXor x d) (xor-comm b c) ∙ xor-assoc c b d)
     ∙ sym (xor-assoc a c (bitXor b d))
+
+-- Numbers that differ in no digit.
+pub xor-equal : (a b : ℕ) → bitXor a b ≡ 0 → a ≡ b
+xor-equal a b e = sym (xor-zero-r a) ∙ ap (bitXor a) (sym (xor-self b)) ∙ sym (xor-assoc a b b) ∙ ap (λ (x : ℕ). bitXor x b) e

@@ -6,9 +6,10 @@ use mathlib.Core.List.{List, [], _∷_}
 use Prim.Native.Nat.{ℕ, _+_, _*_, _/_, _%_, _≤_, _<_}
 use lib.Dec.{eqb, leb}
 use lib.ListN.{length, take, drop, getD}
-use Rattle.packet.specs.Packet.{Packet, token, sof, payload, handshake, encode}
+use Rattle.packet.specs.Crc.{Residual5, Residual16}
+use Rattle.packet.specs.Packet.{Packet, token, sof, payload, handshake, encode, Bytes}
 use Rattle.packet.specs.Reply.{Reply, result, number}
-use Rattle.packet.specs.Reading.{readOf}
+use Rattle.packet.specs.Reading.{wordAt, readOf}
 use Rattle.packet.specs.Writing.{writeRow}
 use Rattle.packet.specs.declared.packet.Token.{Token}
 use Rattle.packet.specs.declared.packet.Handshake.{Handshake}
@@ -29,10 +30,10 @@ begins3to67 x = eqb x 0xC3 || eqb x 0x4B
 abbrev pub begins1 : ℕ → Bool
 begins1 x = eqb x 0xD2 || (eqb x 0x5A || eqb x 0x1E)
 
--- Neither 25 nor 26: a packet, or 27.
-abbrev pub PacketOr27 : Reply Packet → Type 0
-PacketOr27 (result p) = Unit {0}
-PacketOr27 (number n) = n ≡ 27
+-- A packet exactly where a condition holds, else 27.
+abbrev pub PacketOr27 : Type 0 → Reply Packet → Type 0
+PacketOr27 C (result p) = C
+PacketOr27 C (number n) = (n ≡ 27) × (C → ⊥)
 
 pub record Writes : Type 0 where
   -- "19 a field outside its range"
@@ -59,6 +60,6 @@ pub record Reads : Type 0 where
   pub token26 : (x : ℕ) (l : List ℕ) → begins3 x ≡ true → (length l ≡ 2 → ⊥) → readOf (x ∷ l) ≡ number 26
   pub data26 : (x : ℕ) (l : List ℕ) → begins3to67 x ≡ true → (length l < 2) ⊎ (66 < length l) → readOf (x ∷ l) ≡ number 26
   pub handshake26 : (x : ℕ) (l : List ℕ) → begins1 x ≡ true → (length l ≡ 0 → ⊥) → readOf (x ∷ l) ≡ number 26
-  -- "then 27 a wrong CRC": else it is a packet, or 27; a handshake has no CRC.
-  pub token27 : (x : ℕ) (l : List ℕ) → begins3 x ≡ true → length l ≡ 2 → PacketOr27 (readOf (x ∷ l))
-  pub data27 : (x : ℕ) (l : List ℕ) → begins3to67 x ≡ true → 2 ≤ length l → length l ≤ 66 → PacketOr27 (readOf (x ∷ l))
+  -- "then 27 a wrong CRC": exactly where the residual isn't USB 2.0's; a handshake has no CRC.
+  pub token27 : (x : ℕ) (l : List ℕ) → Bytes l → begins3 x ≡ true → length l ≡ 2 → PacketOr27 (Residual5 (wordAt l 0)) (readOf (x ∷ l))
+  pub data27 : (x : ℕ) (l : List ℕ) → Bytes l → begins3to67 x ≡ true → 2 ≤ length l → length l ≤ 66 → PacketOr27 (Residual16 l) (readOf (x ∷ l))

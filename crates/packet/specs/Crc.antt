@@ -50,3 +50,11 @@ poly5 = 0x14
 -- CRC5 of a token's eleven bits.
 unfoldable pub crc5Of : ℕ → ℕ
 crc5Of v = 31 - crcBits poly5 11 31 v
+
+-- Two bytes that leave "the five-bit residual at the receiver .. 01100B" (section 8.3.5.1).
+abbrev pub Residual5 : ℕ → Type 0
+Residual5 w = crcBits poly5 16 31 w ≡ turned 5 0xC 0
+
+-- Bytes that leave "the 16-bit residual .. 1000000000001101B" (section 8.3.5.2).
+abbrev pub Residual16 : List ℕ → Type 0
+Residual16 l = remainder16 0xFFFF l ≡ turned 16 0x800D 0

@@ -4,7 +4,7 @@ use mathlib.Core.List.{List, _++_}
 use Prim.Native.Nat.{ℕ, _-_, _/_, _%_, _≤_, _<_}
 use lib.Bits.{bitXor}
 use lib.ListN.{length, take, drop}
-use Rattle.packet.specs.Crc.{crcBits, turned, poly5, poly16, remainder16, crc16Of, entryOf}
+use Rattle.packet.specs.Crc.{crcBits, poly16, crc16Of, entryOf, Residual5, Residual16}
 use Rattle.packet.specs.Packet.{Packet, low, checked, Bytes}
 use Rattle.packet.specs.Reply.{result, number}
 use Rattle.packet.specs.Reading.{readOf}
@@ -20,9 +20,9 @@ pub record Packets : Type 0 where
   pub keeps : (p : Packet) (out : List ℕ) (used n : ℕ) → writeRow p (length out) used ≡ number n → written p out used ≡ out
   pub keeps-others : (p : Packet) (out : List ℕ) (used n : ℕ) → writeRow p (length out) used ≡ result n
       → (take used (written p out used) ≡ take used out) × (drop n (written p out used) ≡ drop n out)
-  -- "CRC5 on tokens": with its CRC5 every token leaves "the five-bit residual at the receiver .. 01100B" (USB 2.0 section 8.3.5.1).
-  pub residual5 : (v : ℕ) → v ≤ 2047 → crcBits poly5 16 31 (checked v) ≡ turned 5 0xC 0
-  -- "CRC16 on data": with its CRC16 all data leaves "the 16-bit residual .. 1000000000001101B" (section 8.3.5.2).
-  pub residual16 : (d : List ℕ) → remainder16 0xFFFF (d ++ low (crc16Of d)) ≡ turned 16 0x800D 0
+  -- "CRC5 on tokens": with its CRC5 every token leaves USB 2.0's residual.
+  pub residual5 : (v : ℕ) → v ≤ 2047 → Residual5 (checked v)
+  -- "CRC16 on data": with its CRC16 all data leaves USB 2.0's residual.
+  pub residual16 : (d : List ℕ) → Residual16 (d ++ low (crc16Of d))
   -- "CRC16 works from a table .. whose rule follows from the polynomial": eight bits of any remainder by one entry.
   pub by-table : (c x : ℕ) → x < 256 → crcBits poly16 8 c x ≡ bitXor (c / 256) (entryOf (bitXor c x % 256))
