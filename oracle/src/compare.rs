@@ -1,11 +1,13 @@
-//! `oracle compare`, `oracle compare-descriptors`: random input, played here and by
+//! `oracle compare` and `oracle compare-descriptors`, `compare-packets`,
+//! `compare-wirepackets`, `compare-wirelist`: random input, played or judged here and by
 //! another program.
 
-use crate::configurations::Configurations;
-use crate::descriptors;
 use crate::generate::{generate, Kind};
-use crate::replay;
 use crate::script::DeskRule;
+use crate::{
+    configurations, descriptors, packet_lines, random_packets, record_listing, records,
+    replay,
+};
 use std::io::{self, Write};
 use std::process::{Command, Output, Stdio};
 use std::thread;
@@ -13,8 +15,8 @@ use std::thread;
 /// At most this many driver calls are asked of one script.
 const RUN: u64 = 50_000;
 
-/// As many configurations as one input has.
-const CONFIGURATIONS: u64 = 1_000;
+/// As many random lines as one input has.
+const LINES: u64 = 1_000;
 
 /// Plays scripts of every kind, from `seed` on, until there were `calls` calls. Stops at
 /// the first difference and answers whether there was none.
@@ -48,33 +50,74 @@ pub fn compare(
     unreachable!("seeds don't end")
 }
 
-/// Prints random configurations' walks, from `seed` on, until there were as many as asked
-/// for. Stops at the first difference and answers whether there was none.
-pub fn compare_descriptors(
+/// Random lines of one sort, and what a program has to print of them.
+pub struct Subject {
+    /// What the lines are.
+    name: &'static str,
+    /// So many of them, by the seed.
+    lines: fn(u64, u64) -> Vec<u8>,
+    judge: Judge,
+    /// Cuts an output into what it has of each line.
+    parts: Parts,
+}
+
+/// Makes the output that an input has to give.
+pub type Judge = fn(&[u8]) -> Vec<u8>;
+
+type Parts = fn(&[u8]) -> Vec<&[u8]>;
+
+pub const DESCRIPTORS: Subject = Subject {
+    name: "configurations",
+    lines: configurations::lines,
+    judge: descriptors::print,
+    parts: blocks,
+};
+
+pub const PACKETS: Subject = Subject {
+    name: "lines",
+    lines: random_packets::lines,
+    judge: packet_lines::print,
+    parts: lines,
+};
+
+pub const WIRE_PACKETS: Subject = Subject {
+    name: "records",
+    lines: records::lines,
+    judge: record_listing::packets,
+    parts: blocks,
+};
+
+pub const WIRE_LIST: Subject = Subject {
+    judge: record_listing::transfers,
+    ..WIRE_PACKETS
+};
+
+/// Judges random lines, from `seed` on, until there were as many as asked for. Stops at
+/// the first difference and answers whether there was none.
+pub fn compare_lines(
+    subject: &Subject,
     program: &str,
     seed: u64,
-    configurations: u64,
+    count: u64,
     out: &mut impl Write,
 ) -> io::Result<bool> {
-    for run in 0..configurations.div_ceil(CONFIGURATIONS) {
-        let mut random = Configurations::new(seed + run);
-        let lines: String = (0..CONFIGURATIONS).map(|_| random.line()).collect();
-        let mut expected = Vec::new();
-        descriptors::print(lines.as_bytes(), &mut expected)?;
-        if let Some(difference) = difference(program, lines.as_bytes(), &expected)? {
-            writeln!(out, "seed {}, different\n{difference}", seed + run)?;
+    for seed in seed..seed + count.div_ceil(LINES) {
+        let input = (subject.lines)(seed, LINES);
+        let expected = (subject.judge)(&input);
+        if let Some(difference) = difference(program, &input, &expected, subject.parts)? {
+            writeln!(out, "seed {seed}, different\n{difference}")?;
             return Ok(false);
         }
     }
-    let total = configurations.next_multiple_of(CONFIGURATIONS);
-    writeln!(out, "{total} configurations, 0 differences")?;
+    let (total, name) = (count.next_multiple_of(LINES), subject.name);
+    writeln!(out, "{total} {name}, 0 differences")?;
     Ok(true)
 }
 
 fn played_difference(program: &str, script: &[u8]) -> io::Result<Option<String>> {
     let mut expected = Vec::new();
     replay(script, &mut expected)?;
-    difference(program, script, &expected)
+    difference(program, script, &expected, blocks)
 }
 
 /// The first difference between what is expected and what the program makes of the
@@ -83,10 +126,15 @@ fn difference(
     program: &str,
     script: &[u8],
     expected: &[u8],
+    parts: Parts,
 ) -> io::Result<Option<String>> {
     let found = played_by(program, script)?;
     Ok(if expected != found.stdout {
-        Some(first_difference(script, expected, &found.stdout))
+        Some(first_difference(
+            script,
+            &parts(expected),
+            &parts(&found.stdout),
+        ))
     } else if !found.status.success() {
         Some(format!("the program ended with {}", found.status))
     } else {
@@ -108,8 +156,7 @@ fn played_by(program: &str, script: &[u8]) -> io::Result<Output> {
     })
 }
 
-fn first_difference(script: &[u8], expected: &[u8], found: &[u8]) -> String {
-    let (expected, found) = (blocks(expected), blocks(found));
+fn first_difference(script: &[u8], expected: &[&[u8]], found: &[&[u8]]) -> String {
     let at = (0..)
         .find(|at| expected.get(*at) != found.get(*at))
         .expect("they differ");
@@ -127,7 +174,7 @@ fn first_difference(script: &[u8], expected: &[u8], found: &[u8]) -> String {
         None => "nothing\n".to_string(),
     };
     format!(
-        "script line {line}\nthe Rust:\n{}the program:\n{}",
+        "script line {line}\nthe oracle:\n{}the program:\n{}",
         shown(expected.get(at)),
         shown(found.get(at))
     )
@@ -150,6 +197,10 @@ fn blocks(output: &[u8]) -> Vec<&[u8]> {
     blocks
 }
 
+fn lines(output: &[u8]) -> Vec<&[u8]> {
+    output.split_inclusive(|byte| *byte == b'\n').collect()
+}
+
 #[cfg(test)]
 mod tests {
     use super::*;
@@ -160,13 +211,13 @@ mod tests {
         let expected = b"answer refused 17\n.\nanswer refused 17\n.\n";
         let found = b"answer refused 17\n.\nanswer closed\n.\n";
         assert_eq!(
-            first_difference(script, expected, found),
-            "script line 4: close 2\nthe Rust:\nanswer refused 17\n.\n\
+            first_difference(script, &blocks(expected), &blocks(found)),
+            "script line 4: close 2\nthe oracle:\nanswer refused 17\n.\n\
              the program:\nanswer closed\n.\n"
         );
         assert_eq!(
-            first_difference(script, expected, &expected[..20]),
-            "script line 4: close 2\nthe Rust:\nanswer refused 17\n.\n\
+            first_difference(script, &blocks(expected), &blocks(&expected[..20])),
+            "script line 4: close 2\nthe oracle:\nanswer refused 17\n.\n\
              the program:\nnothing\n"
         );
     }

@@ -1,29 +1,28 @@
 //! Random configuration descriptors, whole and damaged, one a line.
 
+use crate::print::hex;
 use crate::rng::Rng;
 
 /// Values near the limits of bLength and the descriptor types.
 const EDGES: [u8; 15] = [0, 1, 2, 3, 4, 5, 6, 7, 8, 9, 10, 14, 15, 16, 255];
 
-pub struct Configurations(Rng);
+/// So many lines of `descriptorcases`' input.
+pub fn lines(seed: u64, count: u64) -> Vec<u8> {
+    let mut random = Configurations(Rng::new(seed));
+    let lines: String = (0..count).map(|_| random.line()).collect();
+    lines.into_bytes()
+}
+
+struct Configurations(Rng);
 
 impl Configurations {
-    pub fn new(seed: u64) -> Self {
-        Self(Rng::new(seed))
-    }
-
-    /// A line of `descriptorcases`' input.
-    pub fn line(&mut self) -> String {
+    fn line(&mut self) -> String {
         let bytes = match self.0.below(10) {
             0 => self.any_bytes(),
             1 => self.edge_bytes(),
             _ => self.descriptors(),
         };
-        if bytes.is_empty() {
-            return "-\n".to_string();
-        }
-        let digits: String = bytes.iter().map(|byte| format!("{byte:02x}")).collect();
-        digits + "\n"
+        hex(&bytes) + "\n"
     }
 
     fn any_bytes(&mut self) -> Vec<u8> {

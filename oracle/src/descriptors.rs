@@ -2,44 +2,27 @@
 //! it. Positions, end and refusals are the document's; the descriptor that stands at a
 //! position is told by the Rust's `parse_descriptors`, which has to report it.
 
-use crate::script;
+use crate::cases::{self, refused, LONGEST};
 use crate::wire::{
     parse_descriptors, ConfigurationDescriptor, DescriptorVisitor, EndpointDescriptor,
     InterfaceDescriptor, CONFIGURATION_DESCRIPTOR, ENDPOINT_DESCRIPTOR,
     INTERFACE_DESCRIPTOR,
 };
 use std::collections::BTreeMap;
-use std::io::{self, BufRead, Write};
 
-/// More bytes are refused with 21.
-const LONGEST: usize = 65_536;
-
-/// Prints the walk of each line's bytes, with a line `.` after each.
-pub fn print(lines: impl BufRead, mut out: impl Write) -> io::Result<()> {
-    for line in lines.split(b'\n') {
-        let line = line?;
-        if !line.is_empty() && line[0] != b'#' {
-            writeln!(out, "{}.", case(&line))?;
-        }
-    }
-    out.flush()
+/// Lists the walk of each line's bytes.
+pub fn print(lines: &[u8]) -> Vec<u8> {
+    cases::print(lines, listing)
 }
 
-/// The walk of a line's bytes.
-pub fn case(line: &[u8]) -> String {
-    match std::str::from_utf8(line).map(script::bytes) {
-        Ok(Ok(bytes)) => listing(&bytes),
-        _ => "not hexadecimal\n".to_string(),
-    }
-}
-
-fn listing(bytes: &[u8]) -> String {
+/// The walk of the bytes.
+pub fn listing(bytes: &[u8]) -> String {
     if bytes.len() > LONGEST {
-        return "refused 21\n".to_string();
+        return refused(21);
     }
     match configuration(bytes) {
         Ok(configuration) => walked(configuration),
-        Err(number) => format!("refused {number}\n"),
+        Err(number) => refused(number),
     }
 }
 
@@ -76,7 +59,7 @@ fn walked(configuration: &[u8]) -> String {
             }
             Err((number, goes_on)) => {
                 assert!(reports.is_empty() || goes_on, "{configuration:02x?}");
-                return text + &format!("refused {number}\n");
+                return text + &refused(number);
             }
         }
     }
@@ -174,11 +157,10 @@ fn plain(at: usize, descriptor: &[u8]) -> String {
     format!("{at} {} {name}", descriptor.len())
 }
 
-/// What the Rust alone makes of a line's bytes: all that it reports, then the end.
+/// What the Rust alone makes of the bytes: all that it reports, then the end.
 #[cfg(test)]
-pub fn rust_case(line: &[u8]) -> String {
-    let bytes = script::bytes(std::str::from_utf8(line).unwrap()).unwrap();
-    let reports = reports(&bytes);
+pub fn rust_listing(bytes: &[u8]) -> String {
+    let reports = reports(bytes);
     let lines: String = reports.values().map(|line| format!("{line}\n")).collect();
     lines + &format!("end {}\n", reports.len())
 }

@@ -4,16 +4,22 @@
 #[cfg(feature = "lean")]
 mod bench;
 mod bus;
+mod cases;
 mod compare;
 mod configurations;
 mod descriptors;
 mod driver;
 mod generate;
 mod lent_buffer;
+mod packet_lines;
 mod packets;
 mod player;
 mod print;
+mod random_packets;
 mod record;
+mod record_listing;
+mod record_reader;
+mod records;
 mod rng;
 mod rules;
 mod runs;
@@ -21,6 +27,7 @@ mod script;
 mod session;
 mod standins;
 mod transfer;
+mod usb_packets;
 mod vectors;
 
 // The Rust, as build.rs left it. It finds its own crates' names among the stand-ins.
@@ -95,7 +102,7 @@ mod rp2040 {
     }
 }
 
-use std::io::{self, BufRead, Write};
+use std::io::{self, BufRead, Read, Write};
 use std::process::ExitCode;
 
 const USAGE: &str = "usage: oracle < SCRIPT
@@ -103,7 +110,14 @@ const USAGE: &str = "usage: oracle < SCRIPT
        oracle vectors
        oracle compare REPLAY SEED CALLS [RULE]
        oracle descriptors < LINES
+       oracle packets < LINES
+       oracle wirepackets < LINES
+       oracle wirelist < LINES
+       oracle wirepcap < RECORD
        oracle compare-descriptors DESCRIPTORCASES SEED CONFIGURATIONS
+       oracle compare-packets PACKETS SEED LINES
+       oracle compare-wirepackets WIREPACKETCASES SEED RECORDS
+       oracle compare-wirelist WIRECASES SEED RECORDS
        oracle bench < LETTERS (with the feature lean)";
 
 fn main() -> ExitCode {
@@ -138,16 +152,44 @@ fn run(arguments: &[&str]) -> Option<io::Result<bool>> {
             let (seed, calls) = (seed.parse().ok()?, calls.parse().ok()?);
             compare::compare(program, seed, calls, desk_rule(rule)?, &mut out)
         }
-        ["descriptors"] => descriptors::print(io::stdin().lock(), out).map(|()| true),
-        ["compare-descriptors", program, seed, configurations] => {
-            let (seed, configurations) =
-                (seed.parse().ok()?, configurations.parse().ok()?);
-            compare::compare_descriptors(program, seed, configurations, &mut out)
-        }
         #[cfg(feature = "lean")]
         ["bench"] => bench::bench(io::stdin().lock(), &mut out).map(|()| true),
+        [name] => judged(judge(name)?, out).map(|()| true),
+        [name, program, seed, lines] => {
+            let (seed, lines) = (seed.parse().ok()?, lines.parse().ok()?);
+            compare::compare_lines(&subject(name)?, program, seed, lines, &mut out)
+        }
         _ => return None,
     })
+}
+
+fn judge(name: &str) -> Option<compare::Judge> {
+    match name {
+        "descriptors" => Some(descriptors::print),
+        "packets" => Some(packet_lines::print),
+        "wirepackets" => Some(record_listing::packets),
+        "wirelist" => Some(record_listing::transfers),
+        "wirepcap" => Some(record_listing::pcap),
+        _ => None,
+    }
+}
+
+fn subject(name: &str) -> Option<compare::Subject> {
+    match name {
+        "compare-descriptors" => Some(compare::DESCRIPTORS),
+        "compare-packets" => Some(compare::PACKETS),
+        "compare-wirepackets" => Some(compare::WIRE_PACKETS),
+        "compare-wirelist" => Some(compare::WIRE_LIST),
+        _ => None,
+    }
+}
+
+/// Prints the output that standard input has to give.
+fn judged(judge: compare::Judge, mut out: impl Write) -> io::Result<()> {
+    let mut input = Vec::new();
+    io::stdin().lock().read_to_end(&mut input)?;
+    out.write_all(&judge(&input))?;
+    out.flush()
 }
 
 /// Desk rule 1 unless said otherwise.

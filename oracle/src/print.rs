@@ -17,8 +17,11 @@ pub fn block(out: &mut impl Write, block: &Block) -> io::Result<()> {
 }
 
 pub fn unreadable(out: &mut impl Write, number: u64) -> io::Result<()> {
-    writeln!(out, "line {number}: not a line of a script")?;
-    writeln!(out, ".")
+    writeln!(out, "{}.", not_a_line(number))
+}
+
+pub fn not_a_line(number: u64) -> String {
+    format!("line {number}: not a line of a script\n")
 }
 
 fn call(out: &mut impl Write, report: &Report) -> io::Result<()> {

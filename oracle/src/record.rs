@@ -16,8 +16,12 @@ const AVAILABLE: u32 = 1 << 10;
 const FULL: u32 = 1 << 15;
 
 const HEAD: [u8; 5] = *b"WLG\x02\x00";
-/// The kind of the entry that holds a count.
-const FAILED: u8 = 0x58;
+
+/// The kinds of entries; FAILED is that of a count.
+pub const SETUP: u8 = 0x53;
+pub const OUT: u8 = 0x4f;
+pub const FAILED: u8 = 0x58;
+
 const ROOM: usize = 131_072;
 const NO_ROOM: u8 = 21;
 
@@ -34,6 +38,23 @@ pub enum Entry {
         last: u8,
         bytes: Vec<u8>,
     },
+}
+
+/// What stands in a record after its head.
+#[derive(Clone)]
+pub enum Written {
+    Armed(Entry),
+    /// The count of a transfer that failed or was cancelled.
+    Failed(u32),
+}
+
+impl Written {
+    pub fn bytes(&self) -> Vec<u8> {
+        match self {
+            Written::Armed(entry) => encoded(entry),
+            Written::Failed(count) => [&[FAILED], &count.to_le_bytes()[..]].concat(),
+        }
+    }
 }
 
 /// Registers after the logs so far.
@@ -139,8 +160,7 @@ impl Record {
     pub fn append(&mut self, armed: &[Entry], failed: Option<u32>) {
         let mut new: Vec<u8> = armed.iter().flat_map(encoded).collect();
         if let Some(count) = failed {
-            new.push(FAILED);
-            new.extend(count.to_le_bytes());
+            new.extend(Written::Failed(count).bytes());
         }
         if self.bytes.len() + new.len() > ROOM {
             self.refused = true;
@@ -160,7 +180,7 @@ impl Record {
 
 fn encoded(entry: &Entry) -> Vec<u8> {
     match entry {
-        Entry::Setup { address, bytes } => [&[0x53, *address], &bytes[..]].concat(),
+        Entry::Setup { address, bytes } => [&[SETUP, *address], &bytes[..]].concat(),
         Entry::Out {
             address,
             endpoint,
@@ -168,7 +188,7 @@ fn encoded(entry: &Entry) -> Vec<u8> {
             last,
             bytes,
         } => {
-            let head = [0x4f, *address, *endpoint, *pid, *last, bytes.len() as u8];
+            let head = [OUT, *address, *endpoint, *pid, *last, bytes.len() as u8];
             [&head, &bytes[..]].concat()
         }
     }

@@ -151,10 +151,18 @@ pub struct Poll {
 #[derive(Clone, Copy, Debug, PartialEq, Eq)]
 pub struct Unreadable;
 
-type Read<T> = Result<T, Unreadable>;
+pub type Read<T> = Result<T, Unreadable>;
 
 /// A line without its LF: what it asks for, or nothing if it is skipped.
 pub fn parse(line: &[u8]) -> Read<Option<Line>> {
+    read(line, Fields::line)
+}
+
+/// The same of lines of another format.
+pub fn read<'a, T>(
+    line: &'a [u8],
+    format: impl Fn(&mut Fields<'a>) -> Read<T>,
+) -> Read<Option<T>> {
     if line.is_empty() || line[0] == b'#' {
         return Ok(None);
     }
@@ -163,14 +171,14 @@ pub fn parse(line: &[u8]) -> Read<Option<Line>> {
     }
     let line = std::str::from_utf8(line).map_err(|_| Unreadable)?;
     let mut fields = Fields(line.split(' '));
-    let call = fields.line()?;
+    let asked = format(&mut fields)?;
     match fields.0.next() {
-        None => Ok(Some(call)),
+        None => Ok(Some(asked)),
         Some(_) => Err(Unreadable),
     }
 }
 
-struct Fields<'a>(std::str::Split<'a, char>);
+pub struct Fields<'a>(std::str::Split<'a, char>);
 
 impl<'a> Fields<'a> {
     fn line(&mut self) -> Read<Line> {
@@ -260,19 +268,19 @@ impl<'a> Fields<'a> {
         Ok(Line::Step(Step::new(way, word()?, word()?, word()?)))
     }
 
-    fn word(&mut self) -> Read<&'a str> {
+    pub fn word(&mut self) -> Read<&'a str> {
         self.0.next().ok_or(Unreadable)
     }
 
-    fn number(&mut self, most: u64) -> Read<u64> {
+    pub fn number(&mut self, most: u64) -> Read<u64> {
         number(self.word()?, most)
     }
 
-    fn byte(&mut self) -> Read<u8> {
+    pub fn byte(&mut self) -> Read<u8> {
         Ok(self.number(u8::MAX.into())? as u8)
     }
 
-    fn size(&mut self) -> Read<u16> {
+    pub fn size(&mut self) -> Read<u16> {
         Ok(self.number(u16::MAX.into())? as u16)
     }
 
@@ -296,7 +304,7 @@ impl<'a> Fields<'a> {
         Ok(self.number(LONGEST)? as usize)
     }
 
-    fn bytes(&mut self) -> Read<Vec<u8>> {
+    pub fn bytes(&mut self) -> Read<Vec<u8>> {
         bytes(self.word()?)
     }
 }

@@ -65,13 +65,30 @@ fn unreadable_lines() {
     check("unreadable");
 }
 
-/// The stored output of `descriptorcases` is what the oracle prints.
-#[test]
-fn stored_configurations() {
-    let stored = Path::new(env!("CARGO_MANIFEST_DIR")).join("../crates/descriptorcases");
-    let output = oracle(&["descriptors"], &stored.join("stdin"));
+/// The stored output of a program is what the oracle prints.
+fn check_stored(judge: &str, program: &str) {
+    let crates = Path::new(env!("CARGO_MANIFEST_DIR")).join("../crates");
+    let stored = crates.join(program);
+    let output = oracle(&[judge], &stored.join("stdin"));
     assert!(output.status.success());
     assert_eq!(output.stdout, fs::read(stored.join("stdout")).unwrap());
+}
+
+#[test]
+fn stored_configurations() {
+    check_stored("descriptors", "descriptorcases");
+}
+
+#[test]
+fn stored_packets() {
+    check_stored("packets", "packets");
+}
+
+#[test]
+fn stored_records() {
+    check_stored("wirelist", "wirecases");
+    check_stored("wirepackets", "wirepacketcases");
+    check_stored("wirepcap", "wirepcap");
 }
 
 /// A last line without LF is a line.
@@ -98,6 +115,7 @@ fn bad_arguments_are_refused() {
         &["compare", "cat", "1"],
         &["compare", "cat", "1", "x"],
         &["compare-descriptors", "cat", "1"],
+        &["compare-bytes", "cat", "1", "1"],
         &["descriptors", "1"],
         &["play"],
     ] {
@@ -124,4 +142,18 @@ fn a_comparison_ends_at_the_first_difference() {
     let text = String::from_utf8(output.stdout).unwrap();
     assert_eq!(output.status.code(), Some(1));
     assert!(text.starts_with("well 1: 500 calls, different\nscript line 1: fresh\n"));
+    for subject in [
+        "compare-descriptors",
+        "compare-packets",
+        "compare-wirelist",
+        "compare-wirepackets",
+    ] {
+        let output = oracle(&[subject, "cat", "3", "1"], &script);
+        let text = String::from_utf8(output.stdout).unwrap();
+        assert_eq!(output.status.code(), Some(1));
+        assert!(
+            text.starts_with("seed 3, different\nscript line "),
+            "{text}"
+        );
+    }
 }

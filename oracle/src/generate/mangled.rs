@@ -1,6 +1,7 @@
 //! Scripts of which some lines have a byte changed, put in or left out.
 
 use super::Generator;
+use crate::rng::Rng;
 use std::io::{self, Write};
 
 /// Bytes that mean something in a line, and some that don't.
@@ -15,20 +16,21 @@ impl<W: Write> Generator<W> {
             _ => self.hostile(),
         }
     }
+}
 
-    pub fn mangle(&mut self, text: &str) -> Vec<u8> {
-        let mut text = text.as_bytes().to_vec();
-        let at = self.rng.below(text.len() as u64) as usize;
-        let new = self.rng.pick(BYTES);
-        match self.rng.below(5) {
-            0 => text[at] = new,
-            1 => text.insert(at, new),
-            2 => text.push(new),
-            3 => text.truncate(at),
-            _ => {
-                text.remove(at);
-            }
+/// The text with a byte changed, put in or left out, or cut off.
+pub fn mangle(rng: &mut Rng, text: &str) -> Vec<u8> {
+    let mut text = text.as_bytes().to_vec();
+    let at = rng.below(text.len() as u64) as usize;
+    let new = rng.pick(BYTES);
+    match rng.below(5) {
+        0 => text[at] = new,
+        1 => text.insert(at, new),
+        2 => text.push(new),
+        3 => text.truncate(at),
+        _ => {
+            text.remove(at);
         }
-        text
     }
+    text
 }

@@ -9,6 +9,7 @@ mod well;
 use crate::player::Player;
 use crate::rng::Rng;
 use crate::script::DeskRule;
+pub use mangled::mangle;
 use std::io::{self, Write};
 
 #[derive(Clone, Copy, PartialEq, Eq)]
@@ -88,7 +89,7 @@ struct Generator<W> {
 impl<W: Write> Generator<W> {
     fn line(&mut self, text: &str) -> io::Result<()> {
         if self.kind == Kind::Mangled && self.rng.once_in(6) {
-            let text = self.mangle(text);
+            let text = mangle(&mut self.rng, text);
             return self.player.line(&text);
         }
         self.player.line(text.as_bytes())

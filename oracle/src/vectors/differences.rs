@@ -60,6 +60,7 @@ mod tests {
     use super::*;
     use crate::async_pool::{self, Pool};
     use crate::bitset::BitSet;
+    use crate::cases::case;
     use crate::descriptors;
     use crate::driver::{Answer, Driver};
     use crate::host_controller::{DeviceStatus, TransferType, UsbSpeed};
@@ -103,10 +104,11 @@ mod tests {
             for input in row.configurations {
                 let line = input.strip_prefix(DESCRIPTORS).unwrap();
                 assert!(stored.lines().any(|stored| stored == line), "{line}");
-                let here = descriptors::case(line.as_bytes());
+                let here = case(line.as_bytes(), descriptors::listing);
                 let named = here.lines().any(|line| row.here.contains(&line));
                 assert!(named, "{}: {line}\n{here}", row.number);
-                assert_ne!(here, descriptors::rust_case(line.as_bytes()));
+                let rust = case(line.as_bytes(), descriptors::rust_listing);
+                assert_ne!(here, rust);
                 count += 1;
             }
         }

@@ -1,0 +1,28 @@
+//! Many inputs, each a line of bytes, as `descriptorcases`, `wirecases` and
+//! `wirepacketcases` have them.
+
+use crate::script;
+
+/// An input of more bytes is refused with 21.
+pub const LONGEST: usize = 65_536;
+
+/// Prints each line's bytes by `listing`, with a line `.` after each.
+pub fn print(lines: &[u8], listing: impl Fn(&[u8]) -> String) -> Vec<u8> {
+    lines
+        .split(|byte| *byte == b'\n')
+        .filter(|line| !line.is_empty() && line[0] != b'#')
+        .flat_map(|line| (case(line, &listing) + ".\n").into_bytes())
+        .collect()
+}
+
+/// What is printed of a line's bytes.
+pub fn case(line: &[u8], listing: impl Fn(&[u8]) -> String) -> String {
+    match std::str::from_utf8(line).map(script::bytes) {
+        Ok(Ok(bytes)) => listing(&bytes),
+        _ => "not hexadecimal\n".to_string(),
+    }
+}
+
+pub fn refused(number: u8) -> String {
+    format!("refused {number}\n")
+}
