@@ -3,7 +3,7 @@ ghost use mathlib.Core.Path.{_≡_};
 ghost use Prim.Native.Nat.{_+_, _≤_};
 ghost use lib.ListN.{length};
 ghost use lib.Seq.{sets};
-ghost use Rattle.capture.specs.Pcap.{fourOf, frameHead};
+ghost use Rattle.capture.specs.Pcap.{low32, frameHead};
 
 // Mark, version 2.4, no time zone, no accuracy, at most 65,535 bytes a packet, link type.
 pub(crate) const FILE_HEAD: [u8; 24] = [
@@ -36,7 +36,7 @@ pub(crate) const FILE_HEAD: [u8; 24] = [
 // 32 bits, low byte first.
 fn put_four(head: &mut [u8], at: usize, n: usize)
     requires { ⌜ at + 4 ≤ length (now head) ⌝ }
-    ensures { λ _. ⌜ now (head .exit) ≡ sets (now (head .entry)) at (fourOf n) ⌝ }
+    ensures { λ _. ⌜ now (head .exit) ≡ sets (now (head .entry)) at (low32 n) ⌝ }
 {
     head[at] = (n % 256) as u8;
     head[at + 1] = (n / 256 % 256) as u8;

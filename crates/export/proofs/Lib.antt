@@ -2,3 +2,4 @@ pub mod Walking
 pub mod Putting
 pub mod Deciding
 pub mod ReadBack
+pub mod ByEntry

@@ -50,7 +50,7 @@ at-most-twice (Failed m) = omega arith
 at-most-twice Bad = omega arith
 at-most-twice End = omega arith
 
-packets-append : (a b : List Packet) → encodePackets (a ++ b) ≡ encodePackets a ++ encodePackets b
+pub packets-append : (a b : List Packet) → encodePackets (a ++ b) ≡ encodePackets a ++ encodePackets b
 unfolding encodePackets
 packets-append [] b = refl
 packets-append (p ∷ a) b = ap (λ (l : List ℕ). encode p ++ l) (packets-append a b) ∙ sym (append-assoc (encode p) (encodePackets a) (encodePackets b))

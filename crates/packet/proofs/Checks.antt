@@ -68,6 +68,7 @@ unfolding encode
 data-there b d = take-append-seam d (low (crc16Of d))
 
 pub writes : Writes
+unfolding encode
 writes = record {
   token19 = token-outside;
   sof19 = λ f room used h. outside (sof f) room used (lt-leb f 2047 h);
@@ -76,6 +77,12 @@ writes = record {
   sof-room = λ f room used h. within (sof f) 3 room used (le-leb f 2047 h) refl;
   data-room = λ b d room used h. within (payload b d) (3 + length d) room used (le-leb (length d) 64 h) refl;
   handshake-room = λ h room used. within (handshake h) 1 room used refl refl;
+  out-first = λ a e. refl;
+  in-first = λ a e. refl;
+  setup-first = λ a e. refl;
+  sof-first = λ f. refl;
+  data0-first = λ d. refl;
+  data1-first = λ d. refl;
   address-bits = address-there;
   endpoint-bits = endpoint-there;
   frame-bits = frame-there;
@@ -193,4 +200,8 @@ reads = record {
   handshake26 = handshake-length;
   token27 = token-late;
   data27 = data-late;
+  token-meant = λ k a e d. refl;
+  sof-meant = λ f d. refl;
+  data-meant = λ b d. (refl, refl);
+  handshake-meant = λ h d. refl;
 }

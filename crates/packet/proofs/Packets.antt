@@ -5,15 +5,17 @@ use mathlib.Core.List.{List, _++_, append-assoc}
 use Prim.Native.Nat.{ℕ, _+_, _-_, _≤_}
 use native.Mathlib.Omega.{arith}
 use lib.Dec.{leb}
+use lib.Bits.{bitXor}
 use lib.ListN.{length, take, drop, length-append}
 use lib.Seq.{sets, sets-eq, length-take-le, take-at, drop-at}
 use borrow.Author.Tests.{le-leb, leb-true}
+use Rattle.packet.specs.Crc.{poly16, entryOf}
 use Rattle.packet.specs.Packet.{Packet, Bytes, encode, inRange}
 use Rattle.packet.specs.Reply.{result, number}
 use Rattle.packet.specs.Reading.{readOf}
 use Rattle.packet.specs.Writing.{fits, writeRow, written}
 use Rattle.packet.specs.Packets.{Packets}
-use Rattle.packet.proofs.Remainders.{byte-by-table}
+use Rattle.packet.proofs.Remainders.{bits-linear, byte-by-table}
 use Rattle.packet.proofs.Residuals.{residual-token, residual-data}
 use Rattle.packet.proofs.RoundTrip.{read-write, write-read}
 
@@ -75,5 +77,18 @@ others p out used n e =
           ∙ ap (λ (i : ℕ). drop i out) (t .next),
     )
 
+entries-add : (m n : ℕ) → entryOf (bitXor m n) ≡ bitXor (entryOf m) (entryOf n)
+unfolding entryOf
+entries-add m n = bits-linear poly16 8 m n 0 0
+
 pub packets : Packets
-packets = record { reads-written = reads; writes-read = writes; keeps = stays; keeps-others = others; residual5 = residual-token; residual16 = residual-data; by-table = byte-by-table }
+packets = record {
+  reads-written = reads;
+  writes-read = writes;
+  keeps = stays;
+  keeps-others = others;
+  residual5 = residual-token;
+  residual16 = residual-data;
+  by-table = byte-by-table;
+  adds-up = entries-add;
+}

@@ -165,7 +165,7 @@ passed-one : (b : Bool) (r p : Packet) → cond b (result r) (number 26) ≡ res
 passed-one true r p e = (refl, cc)
 passed-one false r p e = absurd (let z : _≡_ {A = ℕ} 0 1 = cc in omega arith)
 
--- The first two bytes.
+-- Every element is a byte.
 getD-byte : (l : List ℕ) → Bytes l → (i : ℕ) → getD l i 0 < 256
 getD-byte [] h i = omega arith
 getD-byte (x ∷ l) h zero = h .0

@@ -9,10 +9,12 @@ use lib.ListN.{length, take, drop, getD}
 use Rattle.packet.specs.Crc.{Residual5, Residual16}
 use Rattle.packet.specs.Packet.{Packet, token, sof, payload, handshake, encode, Bytes}
 use Rattle.packet.specs.Reply.{Reply, result, number}
-use Rattle.packet.specs.Reading.{wordAt, readOf}
+use Rattle.packet.specs.Reading.{wordAt, readOf, dataIn, readReply}
 use Rattle.packet.specs.Writing.{writeRow}
 use Rattle.packet.specs.declared.packet.Token.{Token}
+use Rattle.packet.specs.declared.packet.Token.the-variants.{Out, In, Setup}
 use Rattle.packet.specs.declared.packet.Handshake.{Handshake}
+use Rattle.packet.specs.declared.reader.Reading.the-variants.{Token as tokenRead, Sof as sofRead, Data as dataRead, Handshake as handshakeRead}
 
 -- The bytes used after n more, "then with 21 lent bytes too few".
 abbrev pub roomFor : ℕ → ℕ → ℕ → Reply ℕ
@@ -45,6 +47,13 @@ pub record Writes : Type 0 where
   pub sof-room : (f room used : ℕ) → f ≤ 2047 → writeRow (sof f) room used ≡ roomFor 3 room used
   pub data-room : (b : Bool) (d : List ℕ) (room used : ℕ) → length d ≤ 64 → writeRow (payload b d) room used ≡ roomFor (3 + length d) room used
   pub handshake-room : (h : Handshake) (room used : ℕ) → writeRow (handshake h) room used ≡ roomFor 1 room used
+  -- "PID byte with its check nibble", the first of every packet; those of handshakes are `Rows`.
+  pub out-first : (a e : ℕ) → getD (encode (token Out a e)) 0 0 ≡ 0xE1
+  pub in-first : (a e : ℕ) → getD (encode (token In a e)) 0 0 ≡ 0x69
+  pub setup-first : (a e : ℕ) → getD (encode (token Setup a e)) 0 0 ≡ 0x2D
+  pub sof-first : (f : ℕ) → getD (encode (sof f)) 0 0 ≡ 0xA5
+  pub data0-first : (d : List ℕ) → getD (encode (payload false d)) 0 0 ≡ 0xC3
+  pub data1-first : (d : List ℕ) → getD (encode (payload true d)) 0 0 ≡ 0x4B
   -- Where the fields stand, each with its lowest bit first (USB 2.0 section 8.3): the address has the seven bits after the PID byte, the endpoint the next four;
   -- a frame number has all eleven; data comes right after the PID byte.
   pub address-bits : (k : Token) (a e : ℕ) → a ≤ 127 → e ≤ 15 → getD (encode (token k a e)) 1 0 % 128 ≡ a
@@ -63,3 +72,8 @@ pub record Reads : Type 0 where
   -- "then 27 a wrong CRC": exactly where the residual isn't USB 2.0's; a handshake has no CRC.
   pub token27 : (x : ℕ) (l : List ℕ) → Bytes l → begins3 x ≡ true → length l ≡ 2 → PacketOr27 (Residual5 (wordAt l 0)) (readOf (x ∷ l))
   pub data27 : (x : ℕ) (l : List ℕ) → Bytes l → begins3to67 x ≡ true → 2 ≤ length l → length l ≤ 66 → PacketOr27 (Residual16 l) (readOf (x ∷ l))
+  -- What the reader's answer means: a token's address, then its endpoint; `true` is DATA1, with the bytes that `data_of` hands out.
+  pub token-meant : (k : Token) (a e : ℕ) (d : List ℕ) → readReply (tokenRead k a e) d ≡ result (token k a e)
+  pub sof-meant : (f : ℕ) (d : List ℕ) → readReply (sofRead f) d ≡ result (sof f)
+  pub data-meant : (b : Bool) (d : List ℕ) → (readReply (dataRead b) d ≡ result (payload b d)) × (dataIn (result (payload b d)) ≡ d)
+  pub handshake-meant : (h : Handshake) (d : List ℕ) → readReply (handshakeRead h) d ≡ result (handshake h)

@@ -26,3 +26,5 @@ pub record Packets : Type 0 where
   pub residual16 : (d : List ℕ) → Residual16 (d ++ low (crc16Of d))
   -- "CRC16 works from a table .. whose rule follows from the polynomial": eight bits of any remainder by one entry.
   pub by-table : (c x : ℕ) → x < 256 → crcBits poly16 8 c x ≡ bitXor (c / 256) (entryOf (bitXor c x % 256))
+  -- Entries add up, so those of single bits (`Rows`) settle all 256.
+  pub adds-up : (m n : ℕ) → entryOf (bitXor m n) ≡ bitXor (entryOf m) (entryOf n)

@@ -31,7 +31,15 @@ pub record Rows : Type 0 where
   pub nak : encode (handshake Nak) ≡ 0x5A ∷ []
   pub stall : encode (handshake Stall) ≡ 0x1E ∷ []
   pub check-value : crc16Of (0x31 ∷ 0x32 ∷ 0x33 ∷ 0x34 ∷ 0x35 ∷ 0x36 ∷ 0x37 ∷ 0x38 ∷ 0x39 ∷ []) ≡ 0xB4C8
-  pub entry : entryOf 1 ≡ 0xC0C1
+  -- The table's entries of single bits.
+  pub entry-1 : entryOf 1 ≡ 0xC0C1
+  pub entry-2 : entryOf 2 ≡ 0xC181
+  pub entry-4 : entryOf 4 ≡ 0xC301
+  pub entry-8 : entryOf 8 ≡ 0xC601
+  pub entry-16 : entryOf 16 ≡ 0xCC01
+  pub entry-32 : entryOf 32 ≡ 0xD801
+  pub entry-64 : entryOf 64 ≡ 0xF001
+  pub entry-128 : entryOf 128 ≡ 0xA001
   -- 25: nothing, a wrong check nibble, PIDs of high speed alone (PING, NYET, DATA2).
   pub empty : readOf [] ≡ number 25
   pub nibble : readOf (0xE2 ∷ []) ≡ number 25
@@ -43,6 +51,7 @@ pub record Rows : Type 0 where
   pub short-token : readOf (0xE1 ∷ 0x3A ∷ []) ≡ number 26
   pub long-token : readOf (0xE1 ∷ 0x3A ∷ 0x3D ∷ 0 ∷ []) ≡ number 26
   pub short-frame : readOf (0xA5 ∷ 0x01 ∷ []) ≡ number 26
+  pub long-frame : readOf (0xA5 ∷ 0x01 ∷ 0xE8 ∷ 0 ∷ []) ≡ number 26
   pub short-data : readOf (0xC3 ∷ 0 ∷ []) ≡ number 26
   pub long-data : readOf (0xC3 ∷ (zeros 65 ++ (0xD1 ∷ 0x0F ∷ []))) ≡ number 26
   pub long-handshake : readOf (0xD2 ∷ 0 ∷ []) ≡ number 26
@@ -66,6 +75,7 @@ pub record Rows : Type 0 where
   pub data-room : writeRow (payload true (zeros 64)) 66 0 ≡ number 21
   pub handshake-room : writeRow (handshake Ack) 0 0 ≡ number 21
   pub used-room : writeRow (handshake Ack) 5 5 ≡ number 21
+  pub above-room : writeRow (handshake Ack) 5 6 ≡ number 21
   pub token-fits : writeRow (token In 127 15) 3 0 ≡ result 3
   pub frame-fits : writeRow (sof 2047) 3 0 ≡ result 3
   pub data-fits : writeRow (payload true (zeros 64)) 67 0 ≡ result 67
@@ -86,7 +96,14 @@ rows = record {
   nak = refl;
   stall = refl;
   check-value = refl;
-  entry = refl;
+  entry-1 = refl;
+  entry-2 = refl;
+  entry-4 = refl;
+  entry-8 = refl;
+  entry-16 = refl;
+  entry-32 = refl;
+  entry-64 = refl;
+  entry-128 = refl;
   empty = refl;
   nibble = refl;
   nibble-first = refl;
@@ -96,6 +113,7 @@ rows = record {
   short-token = refl;
   long-token = refl;
   short-frame = refl;
+  long-frame = refl;
   short-data = refl;
   long-data = refl;
   long-handshake = refl;
@@ -115,6 +133,7 @@ rows = record {
   data-room = refl;
   handshake-room = refl;
   used-room = refl;
+  above-room = refl;
   token-fits = refl;
   frame-fits = refl;
   data-fits = refl;

@@ -36,6 +36,8 @@ const MAX_FRAME: u16 = 2047;
 
 const MAX_DATA: usize = 64;
 
+const SOF_PID: u8 = 5;
+
 // A PID and eleven bits with their CRC5.
 fn write_eleven(pid: u8, v: u16, out: &mut [u8], used: usize) -> WriteAnswer
     requires { ⌜ (pid ≤ 15) × (v ≤ 2047) ⌝ }
@@ -76,7 +78,7 @@ pub fn write_sof(frame: u16, out: &mut [u8], used: usize) -> WriteAnswer
     if MAX_FRAME < frame {
         return WriteAnswer::Refused(Refusal::Field);
     }
-    write_eleven(5, frame, out, used)
+    write_eleven(SOF_PID, frame, out, used)
 }
 
 // DATA1 where `second`, else DATA0, with its bytes.

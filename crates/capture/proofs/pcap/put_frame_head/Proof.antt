@@ -4,7 +4,7 @@ use mathlib.Core.List.{List}
 use Prim.Native.Nat.{ℕ, _%_}
 use lib.Seq.{sets}
 use denote.Ref.{now}
-use Rattle.capture.specs.Pcap.{fourOf}
+use Rattle.capture.specs.Pcap.{low32}
 use borrow.Author.Needs.{needs}
 use Rattle.capture.proofs.pcap.put_frame_head.Statement.{statement}
 use Rattle.capture.proofs.pcap.put_frame_head.Tie as tie
@@ -26,9 +26,9 @@ returns c =
     let a = c .before .before .before .before .before .before .before .before .args in
     let h = now (a .head) in
     c .put-four4 .ensures
-    ∙ ap (λ (l : List ℕ). sets l 12 (fourOf (a .n))) (c .before .before .put-four3 .ensures
-    ∙ ap (λ (l : List ℕ). sets l 8 (fourOf (a .n))) (c .before .before .before .before .put-four2 .ensures
-    ∙ ap (λ (l : List ℕ). sets l 4 (fourOf (a .i % 1000000))) (c .before .before .before .before .before .before .put-four .ensures)))
+    ∙ ap (λ (l : List ℕ). sets l 12 (low32 (a .n))) (c .before .before .put-four3 .ensures
+    ∙ ap (λ (l : List ℕ). sets l 8 (low32 (a .n))) (c .before .before .before .before .put-four2 .ensures
+    ∙ ap (λ (l : List ℕ). sets l 4 (low32 (a .i % 1000000))) (c .before .before .before .before .before .before .put-four .ensures)))
 
 pub put-frame-head-spec : {M : Type 1} → statement M
 put-frame-head-spec =
