@@ -60,6 +60,7 @@ pub record Rows : Type 0 where
   pub wrong-frame-crc : readOf (0xA5 ∷ 0x01 ∷ 0xE9 ∷ []) ≡ number 27
   pub wrong-crc16 : readOf (0xC3 ∷ 0 ∷ 1 ∷ []) ≡ number 27
   -- Read, the largest fields among them.
+  pub out-read : readOf (0xE1 ∷ 0x3A ∷ 0x3D ∷ []) ≡ result (token Out 0x3A 0xA)
   pub token-read : readOf (0xE1 ∷ 0xFF ∷ 0x47 ∷ []) ≡ result (token Out 127 15)
   pub frame-read : readOf (0xA5 ∷ 0xFF ∷ 0x47 ∷ []) ≡ result (sof 2047)
   pub data-read : readOf (0xC3 ∷ (zeros 64 ++ (0xBF ∷ 0xD0 ∷ []))) ≡ result (payload false (zeros 64))
@@ -120,6 +121,7 @@ rows = record {
   wrong-crc5 = refl;
   wrong-frame-crc = refl;
   wrong-crc16 = refl;
+  out-read = refl;
   token-read = refl;
   frame-read = refl;
   data-read = refl;
