@@ -25,6 +25,7 @@ mod rules;
 mod runs;
 mod script;
 mod session;
+mod short_groups;
 mod standins;
 mod transfer;
 mod usb_packets;
@@ -114,6 +115,7 @@ const USAGE: &str = "usage: oracle < SCRIPT
        oracle wirepackets < LINES
        oracle wirelist < LINES
        oracle wirepcap < RECORD
+       oracle shortgroups < LINES
        oracle compare-descriptors DESCRIPTORCASES SEED CONFIGURATIONS
        oracle compare-packets PACKETS SEED LINES
        oracle compare-wirepackets WIREPACKETCASES SEED RECORDS
@@ -170,6 +172,7 @@ fn judge(name: &str) -> Option<compare::Judge> {
         "wirepackets" => Some(record_listing::packets),
         "wirelist" => Some(record_listing::transfers),
         "wirepcap" => Some(record_listing::pcap),
+        "shortgroups" => Some(short_groups::print),
         _ => None,
     }
 }

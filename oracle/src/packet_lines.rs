@@ -1,7 +1,7 @@
 //! The lines of `packets`: each asks for a packet to be written or read.
 
-use crate::cases::{refused, LONGEST};
-use crate::print::{hex, not_a_line};
+use crate::cases::{self, refused};
+use crate::print::hex;
 use crate::script::{self, Fields, Read};
 use crate::usb_packets::{self, Packet};
 
@@ -16,19 +16,8 @@ enum Line {
 
 /// What `packets` has to print.
 pub fn print(input: &[u8]) -> Vec<u8> {
-    if input.len() > LONGEST {
-        return refused(21).into_bytes();
-    }
     let mut room = ROOM;
-    let mut text = String::new();
-    for (number, line) in (1..).zip(input.split(|byte| *byte == b'\n')) {
-        match script::read(line, line_of) {
-            Ok(Some(line)) => text += &answer(line, &mut room),
-            Ok(None) => {}
-            Err(script::Unreadable) => text += &not_a_line(number),
-        }
-    }
-    text.into_bytes()
+    cases::answers(input, line_of, |line| answer(line, &mut room))
 }
 
 fn answer(line: Line, room: &mut usize) -> String {

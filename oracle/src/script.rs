@@ -280,6 +280,14 @@ impl<'a> Fields<'a> {
         Ok(self.number(u8::MAX.into())? as u8)
     }
 
+    /// A byte, or the given one where there is no field left.
+    pub fn byte_or(&mut self, otherwise: u8) -> Read<u8> {
+        match self.0.next() {
+            Some(word) => Ok(number(word, u8::MAX.into())? as u8),
+            None => Ok(otherwise),
+        }
+    }
+
     pub fn size(&mut self) -> Read<u16> {
         Ok(self.number(u16::MAX.into())? as u16)
     }

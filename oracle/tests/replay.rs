@@ -91,6 +91,11 @@ fn stored_records() {
     check_stored("wirepcap", "wirepcap");
 }
 
+#[test]
+fn stored_groups() {
+    check_stored("shortgroups", "shortgroups");
+}
+
 /// A last line without LF is a line.
 #[test]
 fn last_line_without_end() {

@@ -121,11 +121,3 @@ pub fn answer(command: Command, bytes: &[u8; 131072], lent: usize) {
     let k = put_answer(&mut text, command, bytes, &mut packet[..n]);
     print(&mut text, k);
 }
-
-// Line `number` can't be read.
-pub fn print_unreadable(number: usize) {
-    let mut text = [0u8; 256];
-    let k = put_number(&mut text, 0, b"line ", number);
-    let k = put(&mut text, k, b": not a line of a script");
-    print(&mut text, k);
-}

@@ -23,6 +23,13 @@ pub fn print_refused(n: u8) {
     print_text(b"\n");
 }
 
+// A line of the input that can't be read, by its number.
+pub fn print_unreadable(line: usize) {
+    print_text(b"line");
+    print_number(line);
+    print_text(b": not a line of a script\n");
+}
+
 // The last line of a whole listing.
 pub fn print_end(count: usize) {
     print_text(b"end");
