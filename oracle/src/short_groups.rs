@@ -95,8 +95,8 @@ mod tests {
         assert_eq!(groups(2), expected);
     }
 
-    /// More of them with more bytes, and as many as the formula gives: with k packets of p
-    /// bytes before the last one.
+    /// As many as counted by packet size: a packet alone, or k packets of p bytes before the
+    /// last one.
     #[test]
     fn as_many_as_counted() {
         let counted = |limit: usize| -> usize {

@@ -1,11 +1,10 @@
 -- What stands in an ordered list, and that its members settle it. Assumes nothing.
-use mathlib.Core.Path.{_≡_, refl, ap, ap₂, sym, subst, _∙_}
+use mathlib.Core.Path.{_≡_, refl, ap₂, sym, subst}
 use mathlib.Core.Logic.{_⊎_, inl, inr}
 use mathlib.Core.List.{List, [], _∷_, _++_}
 use Prim.Native.Nat.{ℕ}
 use native.Mathlib.Omega.{arith}
-use lib.ListN.{length}
-use Rattle.groups.specs.Order.{total, Smaller, Before, In, Ordered}
+use Rattle.groups.specs.Order.{Smaller, Before, In, Ordered}
 
 pub in-left : (g : List ℕ) (a b : List (List ℕ)) → In g a → In g (a ++ b)
 in-left g [] b i = absurd i
@@ -42,7 +41,7 @@ smaller-once (x ∷ g) (y ∷ h) (inl s) (inr t) = omega (arith, s, t .0)
 smaller-once (x ∷ g) (y ∷ h) (inr s) (inl t) = omega (arith, s .0, t)
 smaller-once (x ∷ g) (y ∷ h) (inr s) (inr t) = smaller-once g h (s .1) (t .1)
 
-pub before-once : (g h : List ℕ) → Before g h → Before h g → ⊥
+before-once : (g h : List ℕ) → Before g h → Before h g → ⊥
 before-once g h (inl s) (inl t) = omega (arith, s, t)
 before-once g h (inl s) (inr t) = omega (arith, s, t .0)
 before-once g h (inr s) (inl t) = omega (arith, s .0, t)

@@ -1,8 +1,8 @@
 -- `ShortGroups`, proved. Assumes nothing.
-use mathlib.Core.Path.{_≡_, refl, ap, subst, _∙_}
+use mathlib.Core.Path.{refl, ap, subst, _∙_}
 use mathlib.Core.Bool.{true}
 use mathlib.Core.List.{List, _++_}
-use Prim.Native.Nat.{ℕ, _+_, _≤_, _<_}
+use Prim.Native.Nat.{ℕ}
 use native.Mathlib.Nat.{zero-add}
 use native.Mathlib.Omega.{arith}
 use lib.ListN.{length, drop}
@@ -10,8 +10,7 @@ use lib.Seq.{sets-eq}
 use borrow.Author.Tests.{le-leb, lt-leb}
 use Rattle.record.specs.Grammar.{oneGroup, bulkPart, controlPart}
 use Rattle.groups.specs.Order.{In}
-use Rattle.groups.specs.Enumerates.{Allowed, Enumerates, lengthsOf}
-use Rattle.groups.specs.Groups.{groupsTo}
+use Rattle.groups.specs.Enumerates.{Enumerates, lengthsOf}
 use Rattle.groups.specs.Listing.{bytesOf, listBytes}
 use Rattle.groups.specs.ShortGroups.{ShortGroups}
 use Rattle.groups.proofs.Lists.{same-list}
@@ -36,10 +35,13 @@ short-groups = record {
   only = λ n gs hs x y. same-list gs hs (x .ordered) (y .ordered) (members n gs hs x y) (members n hs gs y x);
   no-group = refl;
   each-group = λ g gs. refl;
-  above-6 = λ n out h. (rw (lt-leb _ _ h), rw (lt-leb _ _ h));
-  too-few = λ n out h f. (rw (le-leb _ _ h, lt-leb _ _ f), rw (le-leb _ _ h, lt-leb _ _ f));
-  enough = λ n out h f. (
-    rw (le-leb _ _ h, le-leb _ _ f),
-    rw (le-leb _ _ h, le-leb _ _ f) (sets-eq (listBytes n) out 0 (omega arith) ∙ ap (λ (i : ℕ). listBytes n ++ drop i out) (zero-add (length (listBytes n)))),
+  used-meant = λ k. refl;
+  limit-meant = (refl, refl);
+  room-meant = (refl, refl);
+  above-6 = λ n out r out′ c h. (c .answer ∙ rw (lt-leb _ _ h), c .bytes ∙ rw (lt-leb _ _ h));
+  too-few = λ n out r out′ c h f. (c .answer ∙ rw (le-leb _ _ h, lt-leb _ _ f), c .bytes ∙ rw (le-leb _ _ h, lt-leb _ _ f));
+  enough = λ n out r out′ c h f. (
+    c .answer ∙ rw (le-leb _ _ h, le-leb _ _ f),
+    c .bytes ∙ rw (le-leb _ _ h, le-leb _ _ f) (sets-eq (listBytes n) out 0 (omega arith) ∙ ap (λ (i : ℕ). listBytes n ++ drop i out) (zero-add (length (listBytes n)))),
   );
 }

@@ -20,7 +20,7 @@ is-prefix (suc (suc (suc (suc (suc (suc zero)))))) h = refl
 is-prefix (suc (suc (suc (suc (suc (suc (suc n))))))) h = absurd (omega arith)
 
 -- Where each ends.
-abbrev pub ends : List ℕ
+abbrev ends : List ℕ
 ends = 2 ∷ 7 ∷ 19 ∷ 36 ∷ 62 ∷ 90 ∷ 132 ∷ []
 
 pub end-is : (n : ℕ) → n ≤ 6 → (getD ends n 0 ≡ length (listBytes n)) × (getD ends n 0 ≤ 132)

@@ -1,4 +1,4 @@
--- The list of short groups, by their packets' lengths.
+-- The list of short groups, by their packets' lengths: up to 64 bytes, which one packet may have.
 use mathlib.Core.Bool.{Bool, cond, _&&_}
 use mathlib.Core.List.{List, [], _∷_, _++_}
 use Prim.Native.Nat.{ℕ, zero, suc, _-_, _*_}

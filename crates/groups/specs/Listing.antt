@@ -1,6 +1,6 @@
 -- The list as bytes, and what the call answers and leaves: "It refuses with 35 an n above 6, then with 21 lent bytes too few."
 use mathlib.Core.Path.{_≡_}
-use mathlib.Core.Bool.{Bool, cond, _&&_}
+use mathlib.Core.Bool.{cond, _&&_}
 use mathlib.Core.List.{List, [], _∷_, _++_}
 use Prim.Native.Nat.{ℕ}
 use lib.Dec.{leb}

@@ -9,6 +9,8 @@ use Rattle.groups.specs.Listing.{bytesOf, listBytes, groupsRow}
 pub record Rows : Type 0 where
   -- "For n = 2: 0; 1; 1 0; 2; 1 1; 2 0; 1 1 0."
   pub two : groupsTo 2 ≡ (0 ∷ []) ∷ (1 ∷ []) ∷ (1 ∷ 0 ∷ []) ∷ (2 ∷ []) ∷ (1 ∷ 1 ∷ []) ∷ (2 ∷ 0 ∷ []) ∷ (1 ∷ 1 ∷ 0 ∷ []) ∷ []
+  -- The smallest list that an order from the last length on would change.
+  pub three : groupsTo 3 ≡ (0 ∷ []) ∷ (1 ∷ []) ∷ (1 ∷ 0 ∷ []) ∷ (2 ∷ []) ∷ (1 ∷ 1 ∷ []) ∷ (2 ∷ 0 ∷ []) ∷ (1 ∷ 1 ∷ 0 ∷ []) ∷ (3 ∷ []) ∷ (2 ∷ 1 ∷ []) ∷ (3 ∷ 0 ∷ []) ∷ (1 ∷ 1 ∷ 1 ∷ []) ∷ (1 ∷ 1 ∷ 1 ∷ 0 ∷ []) ∷ []
   -- "Each is given as its packet count and then the lengths, a byte each."
   pub two-bytes : listBytes 2 ≡ 1 ∷ 0 ∷ 1 ∷ 1 ∷ 2 ∷ 1 ∷ 0 ∷ 1 ∷ 2 ∷ 2 ∷ 1 ∷ 1 ∷ 2 ∷ 2 ∷ 0 ∷ 3 ∷ 1 ∷ 1 ∷ 0 ∷ []
   pub none : listBytes 0 ≡ 1 ∷ 0 ∷ []
@@ -26,12 +28,12 @@ pub record Rows : Type 0 where
   -- 35, also where nothing is lent.
   pub limit : groupsRow 7 132 ≡ number 35
   pub limit-first : groupsRow 7 0 ≡ number 35
-  pub most : groupsRow 255 255 ≡ number 35
 
 pub rows : Rows
 unfolding groupsTo collect bytesOf
 rows = record {
   two = refl;
+  three = refl;
   two-bytes = refl;
   none = refl;
   six = refl;
@@ -46,5 +48,4 @@ rows = record {
   room-6 = refl;
   limit = refl;
   limit-first = refl;
-  most = refl;
 }

@@ -12,7 +12,7 @@ pub enum Refusal {
     Room,
 }
 
-// How many bytes were written.
+// How many bytes were written, or why none.
 pub enum GroupsAnswer {
     Used(usize),
     Refused(Refusal),

@@ -9,11 +9,11 @@ use Rattle.script.specs.Lines.{withByte, isSkipped}
 use Rattle.shortgroups.specs.declared.line.Command.{Command}
 use Rattle.shortgroups.specs.declared.line.Command.the-variants.{Skipped, Wrong, List as list}
 
--- `N`: "N above 255 can't be read"; without ROOM "enough" is lent.
+-- `N`: a number above 255 can't be read; 255 bytes are lent.
 unfoldable pub limitOf : List ℕ → Command
 limitOf line = withByte (byteAt line 0) Wrong λ n. list n 255
 
--- `N ROOM`: "N and the bytes lent", "ROOM is at most 255".
+-- `N ROOM`: a limit and the bytes lent, each at most 255.
 unfoldable pub lentOf : List ℕ → Command
 lentOf line = withByte (byteAt line 0) Wrong λ n. (withByte (byteAt line 1) Wrong λ room. list n room)
 

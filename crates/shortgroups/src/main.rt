@@ -45,7 +45,7 @@ fn group_length(k: u8) -> usize
     1 + k as usize
 }
 
-// Each group on a line, and how many they are.
+// Each group on a line, and how many they are. A list cut inside a group, which `short_groups` never writes, has no last line.
 fn print_groups(list: &[u8]) {
     let mut at: usize = 0;
     let mut count: usize = 0;
