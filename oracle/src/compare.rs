@@ -1,12 +1,12 @@
-//! `oracle compare` and `oracle compare-descriptors`, `compare-packets`,
+//! `oracle compare`, `compare-callers`, `compare-descriptors`, `compare-packets`,
 //! `compare-wirepackets`, `compare-wirelist`: random input, played or judged here and by
 //! another program.
 
 use crate::generate::{generate, Kind};
-use crate::script::DeskRule;
+use crate::script::{DeskRule, Format};
 use crate::{
-    configurations, descriptors, packet_lines, random_packets, record_listing, records,
-    replay,
+    configurations, descriptors, packet_lines, play, random_packets, record_listing,
+    records,
 };
 use std::io::{self, Write};
 use std::process::{Command, Output, Stdio};
@@ -21,6 +21,7 @@ const LINES: u64 = 1_000;
 /// Plays scripts of every kind, from `seed` on, until there were `calls` calls. Stops at
 /// the first difference and answers whether there was none.
 pub fn compare(
+    format: Format,
     program: &str,
     seed: u64,
     calls: u64,
@@ -36,9 +37,9 @@ pub fn compare(
                 return Ok(true);
             }
             let mut script = Vec::new();
-            let played = generate(seed, run, kind, rule, &mut script)?;
+            let played = generate(format, seed, run, kind, rule, &mut script)?;
             let what = format!("{} {seed}: {played} calls", kind.name());
-            if let Some(difference) = played_difference(program, &script)? {
+            if let Some(difference) = played_difference(format, program, &script)? {
                 writeln!(out, "{what}, different\n{difference}")?;
                 return Ok(false);
             }
@@ -114,9 +115,13 @@ pub fn compare_lines(
     Ok(true)
 }
 
-fn played_difference(program: &str, script: &[u8]) -> io::Result<Option<String>> {
+fn played_difference(
+    format: Format,
+    program: &str,
+    script: &[u8],
+) -> io::Result<Option<String>> {
     let mut expected = Vec::new();
-    replay(script, &mut expected)?;
+    play(format, script, &mut expected)?;
     difference(program, script, &expected, blocks)
 }
 
@@ -224,11 +229,13 @@ mod tests {
 
     #[test]
     fn a_program_that_answers_otherwise_is_found() {
-        assert!(played_difference("cat", b"close 1\n").unwrap().is_some());
-        assert!(played_difference("cat", b"# nothing to play")
-            .unwrap()
-            .is_some());
-        assert!(played_difference("false", b"").unwrap().is_some());
-        assert!(played_difference("cat", b"").unwrap().is_none());
+        let differs = |program, script| {
+            let difference = played_difference(Format::Replay, program, script);
+            difference.unwrap().is_some()
+        };
+        assert!(differs("cat", b"close 1\n"));
+        assert!(differs("cat", b"# nothing to play"));
+        assert!(differs("false", b""));
+        assert!(!differs("cat", b""));
     }
 }

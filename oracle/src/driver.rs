@@ -19,6 +19,12 @@ use std::task::{Context, Poll, Waker};
 pub enum Answer {
     Ok,
     Begun,
+    /// The dispatcher's: a caller waits.
+    Come,
+    /// Whose turn it is.
+    Turn(Option<u8>),
+    /// The caller whose transfer was begun.
+    Started(u8),
     Waiting {
         again: bool,
     },
@@ -43,6 +49,16 @@ pub enum Answer {
         detection: bool,
     },
     Device(DeviceStatus),
+}
+
+impl Answer {
+    /// Whether a step or cancel that answers so ended its transfer.
+    pub fn is_end(&self) -> bool {
+        matches!(
+            self,
+            Answer::Done { .. } | Answer::Failed { .. } | Answer::Cancelled { .. }
+        )
+    }
 }
 
 pub struct Driver {

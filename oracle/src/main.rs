@@ -1,13 +1,15 @@
 //! The oracle: the Rust of cotton-usb-host, run over a memory stand-in. It reads a
-//! replay script and prints what each call answers, writes and arms. docs/ORACLE.md.
+//! script and prints what each call answers, writes and arms. docs/ORACLE.md.
 
 #[cfg(feature = "lean")]
 mod bench;
 mod bus;
+mod caller_lines;
 mod cases;
 mod compare;
 mod configurations;
 mod descriptors;
+mod dispatcher;
 mod driver;
 mod generate;
 mod lent_buffer;
@@ -103,6 +105,7 @@ mod rp2040 {
     }
 }
 
+use script::{DeskRule, Format};
 use std::io::{self, BufRead, Read, Write};
 use std::process::ExitCode;
 
@@ -110,6 +113,10 @@ const USAGE: &str = "usage: oracle < SCRIPT
        oracle gen SEED CALLS well|hostile|edge|mangled [RULE]
        oracle vectors
        oracle compare REPLAY SEED CALLS [RULE]
+       oracle callers < SCRIPT
+       oracle gen-callers SEED CALLS well|hostile|edge|mangled
+       oracle callers-vectors
+       oracle compare-callers CALLERS SEED CALLS
        oracle descriptors < LINES
        oracle packets < LINES
        oracle wirepackets < LINES
@@ -143,17 +150,28 @@ fn main() -> ExitCode {
 fn run(arguments: &[&str]) -> Option<io::Result<bool>> {
     let mut out = io::BufWriter::new(io::stdout().lock());
     Some(match *arguments {
-        [] => replay(io::stdin().lock(), out).map(|()| true),
+        [] => play(Format::Replay, io::stdin().lock(), out).map(|()| true),
+        ["callers"] => play(Format::Callers, io::stdin().lock(), out).map(|()| true),
         ["gen", seed, calls, kind, ref rule @ ..] => {
-            let kind = generate::Kind::named(kind)?;
-            let (seed, calls) = (seed.parse().ok()?, calls.parse().ok()?);
-            generate::generate(seed, calls, kind, desk_rule(rule)?, out).map(|_| true)
+            generated(Format::Replay, desk_rule(rule)?, [seed, calls, kind], out)?
+        }
+        ["gen-callers", seed, calls, kind] => {
+            generated(Format::Callers, DeskRule::One, [seed, calls, kind], out)?
         }
         ["vectors"] => vectors::vectors(out).map(|()| true),
-        ["compare", program, seed, calls, ref rule @ ..] => {
-            let (seed, calls) = (seed.parse().ok()?, calls.parse().ok()?);
-            compare::compare(program, seed, calls, desk_rule(rule)?, &mut out)
-        }
+        ["callers-vectors"] => vectors::callers_vectors(out).map(|()| true),
+        ["compare", program, seed, calls, ref rule @ ..] => compared(
+            Format::Replay,
+            desk_rule(rule)?,
+            [program, seed, calls],
+            &mut out,
+        )?,
+        ["compare-callers", program, seed, calls] => compared(
+            Format::Callers,
+            DeskRule::One,
+            [program, seed, calls],
+            &mut out,
+        )?,
         #[cfg(feature = "lean")]
         ["bench"] => bench::bench(io::stdin().lock(), &mut out).map(|()| true),
         [name] => judged(judge(name)?, out).map(|()| true),
@@ -163,6 +181,29 @@ fn run(arguments: &[&str]) -> Option<io::Result<bool>> {
         }
         _ => return None,
     })
+}
+
+/// Prints a random script.
+fn generated(
+    format: Format,
+    rule: DeskRule,
+    [seed, calls, kind]: [&str; 3],
+    out: impl Write,
+) -> Option<io::Result<bool>> {
+    let kind = generate::Kind::named(kind)?;
+    let (seed, calls) = (seed.parse().ok()?, calls.parse().ok()?);
+    Some(generate::generate(format, seed, calls, kind, rule, out).map(|_| true))
+}
+
+/// Compares random scripts with a program.
+fn compared(
+    format: Format,
+    rule: DeskRule,
+    [program, seed, calls]: [&str; 3],
+    out: &mut impl Write,
+) -> Option<io::Result<bool>> {
+    let (seed, calls) = (seed.parse().ok()?, calls.parse().ok()?);
+    Some(compare::compare(format, program, seed, calls, rule, out))
 }
 
 fn judge(name: &str) -> Option<compare::Judge> {
@@ -196,16 +237,16 @@ fn judged(judge: compare::Judge, mut out: impl Write) -> io::Result<()> {
 }
 
 /// Desk rule 1 unless said otherwise.
-fn desk_rule(arguments: &[&str]) -> Option<script::DeskRule> {
+fn desk_rule(arguments: &[&str]) -> Option<DeskRule> {
     match arguments {
-        [] | ["1"] => Some(script::DeskRule::One),
-        ["2"] => Some(script::DeskRule::Two),
+        [] | ["1"] => Some(DeskRule::One),
+        ["2"] => Some(DeskRule::Two),
         _ => None,
     }
 }
 
 /// Plays a script line by line.
-fn replay(mut script: impl BufRead, mut out: impl Write) -> io::Result<()> {
+fn play(format: Format, mut script: impl BufRead, mut out: impl Write) -> io::Result<()> {
     let mut session = session::Session::new();
     let mut line = Vec::new();
     for number in 1u64.. {
@@ -216,7 +257,7 @@ fn replay(mut script: impl BufRead, mut out: impl Write) -> io::Result<()> {
         if line.last() == Some(&b'\n') {
             line.pop();
         }
-        match script::parse(&line) {
+        match script::parse(&line, format) {
             Ok(None) => {}
             Ok(Some(call)) => print::block(&mut out, &session.play(call))?,
             Err(script::Unreadable) => print::unreadable(&mut out, number)?,

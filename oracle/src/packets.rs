@@ -2,7 +2,7 @@
 //! flipped once per packet retired, counted from the samples and the logs.
 
 use crate::driver::Answer;
-use crate::script::{Begin, Step, Way};
+use crate::script::{Request, Step, Way};
 use crate::standins::memory::Write;
 
 const EP_BUFFER_CONTROL: u32 = 0x5010_0080;
@@ -20,13 +20,13 @@ pub struct Packets {
 
 impl Packets {
     /// Of a bulk begin; a control has no toggle.
-    pub fn of(begin: &Begin, log: &[Write]) -> Option<Self> {
-        let Begin::Bulk { toggle, data, .. } = begin else {
+    pub fn of(request: &Request, log: &[Write]) -> Option<Self> {
+        let Request::Bulk { toggle, way, .. } = *request else {
             return None;
         };
         Some(Self {
-            way: data.way(),
-            toggle: *toggle,
+            way,
+            toggle,
             armed: armings(log),
             retired: 0,
         })

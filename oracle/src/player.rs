@@ -2,9 +2,10 @@
 //! the driver answered.
 
 use crate::bus::Bus;
+use crate::dispatcher::Dispatcher;
 use crate::driver::Answer;
 use crate::record::{SEND_SETUP, SIE_CTRL};
-use crate::script::{self, Begin, Line, Way};
+use crate::script::{self, Format, Line, Request, Way};
 use crate::session::{Block, Report, Session};
 use std::io::{self, Write};
 
@@ -16,6 +17,7 @@ pub const INTR_BUFF_STATUS: u32 = 0x10;
 
 pub struct Player<W> {
     out: W,
+    pub format: Format,
     session: Session,
     pub bus: Bus,
     pub under_way: Option<UnderWay>,
@@ -23,8 +25,8 @@ pub struct Player<W> {
     pub open: [bool; 15],
     /// Transfers that failed or were cancelled so far.
     pub failures: u64,
-    /// Begins, steps, cancels, opens, closes, polls, interrupts and detections so far,
-    /// refused ones too.
+    /// Begins, comings, looks, starts, steps, cancels, opens, closes, polls, interrupts
+    /// and detections so far, refused ones too.
     pub calls: u64,
 }
 
@@ -37,19 +39,20 @@ pub struct UnderWay {
 }
 
 impl UnderWay {
-    fn of(begin: &Begin) -> Self {
+    fn of(request: &Request, length: usize) -> Self {
         Self {
-            way: begin.data().way(),
-            size: begin.size().into(),
-            length: begin.data().length(),
+            way: request.way(),
+            size: request.size().into(),
+            length,
         }
     }
 }
 
 impl<W: Write> Player<W> {
-    pub fn new(out: W) -> Self {
+    pub fn new(out: W, format: Format) -> Self {
         Self {
             out,
+            format,
             session: Session::new(),
             bus: Bus::default(),
             under_way: None,
@@ -63,7 +66,7 @@ impl<W: Write> Player<W> {
     pub fn line(&mut self, text: &[u8]) -> io::Result<()> {
         self.out.write_all(text)?;
         self.out.write_all(b"\n")?;
-        let Ok(Some(line)) = script::parse(text) else {
+        let Ok(Some(line)) = script::parse(text, self.format) else {
             return Ok(());
         };
         self.calls += u64::from(is_call(&line));
@@ -71,10 +74,15 @@ impl<W: Write> Player<W> {
             self.under_way = None;
             self.open = [false; 15];
         }
+        let asked = self.asked(&line);
         if let Block::Call(report) = self.session.play(line.clone()) {
-            self.note(&line, &report);
+            self.note(&line, asked, &report);
         }
         Ok(())
+    }
+
+    pub fn dispatcher(&self) -> &Dispatcher {
+        self.session.dispatcher()
     }
 
     /// Lets a sound device take or send up to so many packets, or take the SETUP, and
@@ -111,19 +119,24 @@ impl<W: Write> Player<W> {
         self.out.flush()
     }
 
-    fn note(&mut self, line: &Line, report: &Report) {
+    /// The transfer that a begin or a start would begin.
+    fn asked(&self, line: &Line) -> Option<UnderWay> {
+        match line {
+            Line::Begin(begin) => Some(UnderWay::of(&begin.request, begin.buffer.len())),
+            Line::Start(_) => {
+                let next = self.dispatcher().next()?;
+                Some(UnderWay::of(&next.request, next.length))
+            }
+            _ => None,
+        }
+    }
+
+    fn note(&mut self, line: &Line, asked: Option<UnderWay>, report: &Report) {
         self.bus.see(&report.log);
         self.failures += u64::from(report.failed.is_some());
         match (line, &report.answer) {
-            (Line::Begin(begin), Answer::Begun) => {
-                self.under_way = Some(UnderWay::of(begin));
-            }
-            (
-                _,
-                Answer::Done { .. } | Answer::Failed { .. } | Answer::Cancelled { .. },
-            ) => {
-                self.under_way = None;
-            }
+            (_, Answer::Begun | Answer::Started(_)) => self.under_way = asked,
+            (_, answer) if answer.is_end() => self.under_way = None,
             (_, Answer::Pipe(n)) => self.open[usize::from(*n) - 1] = true,
             (Line::Close(n), Answer::Closed) => self.open[usize::from(*n) - 1] = false,
             _ => {}

@@ -1,4 +1,4 @@
-//! The replay format's output.
+//! The output of a script.
 
 use crate::driver::Answer;
 use crate::host_controller::{DeviceStatus, UsbSpeed};
@@ -50,6 +50,10 @@ fn answer(out: &mut impl Write, answer: &Answer) -> io::Result<()> {
     match answer {
         Answer::Ok => writeln!(out, "ok"),
         Answer::Begun => writeln!(out, "begun"),
+        Answer::Come => writeln!(out, "waiting"),
+        Answer::Turn(Some(caller)) => writeln!(out, "turn {caller}"),
+        Answer::Turn(None) => writeln!(out, "nobody"),
+        Answer::Started(caller) => writeln!(out, "started {caller}"),
         Answer::Waiting { again } => writeln!(out, "waiting {}", u8::from(*again)),
         Answer::Done { count, toggle } => {
             let toggle = match toggle {

@@ -1,7 +1,7 @@
 //! What document 01 decides before the Rust is called: its table of numbers, for the
 //! checks that the Rust doesn't make.
 
-use crate::script::{Begin, Open};
+use crate::script::{Begin, Open, Request};
 
 const PACKET_MEMORY: usize = 4096;
 const LEAST_LOG: usize = 192;
@@ -17,6 +17,9 @@ pub const BULK_LENGTH: u8 = 14;
 pub const LENT: u8 = 15;
 pub const NOTHING_TO_SERVE: u8 = 16;
 pub const NO_SUCH_PIPE: u8 = 17;
+/// Document 02, R-9.
+pub const NO_SUCH_CALLER: u8 = 32;
+pub const ALREADY_WAITS: u8 = 33;
 
 /// The lengths lent to a call: 15, "every call with lent memory". Packet memory is lent
 /// to begin, step and poll; the log to these and to open, interrupt routine and
@@ -48,20 +51,24 @@ impl Lent {
 /// The row "begin"; 8 stands in for the Rust's wait for the control pipe.
 pub fn begin(under_way: bool, begin: &Begin) -> Result<(), u8> {
     check(!under_way, UNDER_WAY)?;
-    match begin {
-        Begin::Control { address, size, .. } => {
-            check(*address <= HIGHEST_ADDRESS, ADDRESS)?;
-            packet_size((*size).into())
+    request(&begin.request, begin.buffer.len())
+}
+
+/// The same row, but for 8: of the fields and the buffer's length.
+pub fn request(request: &Request, length: usize) -> Result<(), u8> {
+    match *request {
+        Request::Control { address, size, .. } => {
+            check(address <= HIGHEST_ADDRESS, ADDRESS)?;
+            packet_size(size.into())
         }
-        Begin::Bulk {
+        Request::Bulk {
             address,
             endpoint,
             size,
-            data,
             ..
         } => {
-            fields(*address, *endpoint, *size)?;
-            check(data.length() <= LONGEST_BULK, BULK_LENGTH)
+            fields(address, endpoint, size)?;
+            check(length <= LONGEST_BULK, BULK_LENGTH)
         }
     }
 }
@@ -92,16 +99,19 @@ pub fn check(holds: bool, number: u8) -> Result<(), u8> {
 #[cfg(test)]
 mod tests {
     use super::*;
-    use crate::script::Data;
+    use crate::script::Way;
 
     fn bulk(address: u8, endpoint: u8, size: u16, length: usize) -> Begin {
-        Begin::Bulk {
-            address,
-            endpoint,
-            size,
-            variable: false,
-            toggle: false,
-            data: Data::In(length),
+        Begin {
+            request: Request::Bulk {
+                address,
+                endpoint,
+                size,
+                variable: false,
+                toggle: false,
+                way: Way::In,
+            },
+            buffer: vec![0; length],
         }
     }
 

@@ -1,4 +1,4 @@
-//! The replay script's lines.
+//! The lines of the replay script and of the callers' script.
 
 use std::fmt;
 
@@ -7,6 +7,15 @@ const LONGEST_LINE: usize = 300_000;
 const PACKET_MEMORY: u64 = 4096;
 const LOG: u64 = 192;
 
+/// Two formats, with the same lines but for those that begin a transfer.
+#[derive(Clone, Copy, Debug, PartialEq, Eq)]
+pub enum Format {
+    /// docs/REPLAY.md: a transfer begins.
+    Replay,
+    /// Document 02, R-9: a transfer comes and, when it is its caller's turn, starts.
+    Callers,
+}
+
 #[derive(Clone, Debug, PartialEq, Eq)]
 pub enum Line {
     Fresh,
@@ -14,6 +23,9 @@ pub enum Line {
     Lend { packet_memory: usize, log: usize },
     PacketMemory { offset: usize, bytes: Vec<u8> },
     Begin(Begin),
+    Come(Coming),
+    Look,
+    Start(Start),
     Buffer(Vec<u8>),
     Step(Step),
     Cancel,
@@ -32,14 +44,37 @@ pub enum DeskRule {
     Two,
 }
 
+/// What a transfer begins with; the buffer is the one lent.
 #[derive(Clone, Debug, PartialEq, Eq)]
-pub enum Begin {
+pub struct Begin {
+    pub request: Request,
+    pub buffer: Vec<u8>,
+}
+
+/// A caller's transfer, with its buffer's length alone.
+#[derive(Clone, Debug, PartialEq, Eq)]
+pub struct Coming {
+    pub caller: u8,
+    pub request: Request,
+    pub length: usize,
+}
+
+/// The buffer of the caller whose turn it is.
+#[derive(Clone, Debug, PartialEq, Eq)]
+pub struct Start {
+    pub kind: TransferKind,
+    pub buffer: Vec<u8>,
+}
+
+/// The fields of a begin.
+#[derive(Clone, Debug, PartialEq, Eq)]
+pub enum Request {
     Control {
         address: u8,
         preamble: bool,
         size: u8,
         setup: [u8; 8],
-        data: Data,
+        phase: Phase,
     },
     Bulk {
         address: u8,
@@ -47,48 +82,62 @@ pub enum Begin {
         size: u16,
         variable: bool,
         toggle: bool,
-        data: Data,
+        way: Way,
     },
 }
 
-/// The buffer of a begin; an IN's is all 0 at first. Only a control has `None`.
-#[derive(Clone, Debug, PartialEq, Eq)]
-pub enum Data {
-    In(usize),
-    Out(Vec<u8>),
+/// A control's data phase.
+#[derive(Clone, Copy, Debug, PartialEq, Eq)]
+pub enum Phase {
+    In,
+    Out,
     None,
 }
 
-impl Begin {
-    pub fn data(&self) -> &Data {
-        match self {
-            Begin::Control { data, .. } | Begin::Bulk { data, .. } => data,
-        }
-    }
-
-    pub fn size(&self) -> u16 {
-        match self {
-            Begin::Control { size, .. } => (*size).into(),
-            Begin::Bulk { size, .. } => *size,
-        }
-    }
+/// The calls that start a transfer, one for each.
+#[derive(Clone, Copy, Debug, PartialEq, Eq)]
+pub enum TransferKind {
+    Control,
+    BulkIn,
+    BulkOut,
 }
 
-impl Data {
-    pub fn length(&self) -> usize {
+impl Request {
+    pub fn size(&self) -> u16 {
         match self {
-            Data::In(length) => *length,
-            Data::Out(bytes) => bytes.len(),
-            Data::None => 0,
+            Request::Control { size, .. } => (*size).into(),
+            Request::Bulk { size, .. } => *size,
+        }
+    }
+
+    pub fn kind(&self) -> TransferKind {
+        match self {
+            Request::Control { .. } => TransferKind::Control,
+            Request::Bulk { way: Way::In, .. } => TransferKind::BulkIn,
+            Request::Bulk { way: Way::Out, .. } => TransferKind::BulkOut,
         }
     }
 
     /// The step that serves it.
     pub fn way(&self) -> Way {
         match self {
-            Data::In(_) | Data::None => Way::In,
-            Data::Out(_) => Way::Out,
+            Request::Control { phase, .. } => match phase {
+                Phase::In | Phase::None => Way::In,
+                Phase::Out => Way::Out,
+            },
+            Request::Bulk { way, .. } => *way,
         }
+    }
+
+    /// Only a control None has no buffer.
+    fn has_buffer(&self) -> bool {
+        !matches!(
+            self,
+            Request::Control {
+                phase: Phase::None,
+                ..
+            }
+        )
     }
 }
 
@@ -154,8 +203,8 @@ pub struct Unreadable;
 pub type Read<T> = Result<T, Unreadable>;
 
 /// A line without its LF: what it asks for, or nothing if it is skipped.
-pub fn parse(line: &[u8]) -> Read<Option<Line>> {
-    read(line, Fields::line)
+pub fn parse(line: &[u8], format: Format) -> Read<Option<Line>> {
+    read(line, |fields| fields.line(format))
 }
 
 /// The same of lines of another format.
@@ -181,7 +230,7 @@ pub fn read<'a, T>(
 pub struct Fields<'a>(std::str::Split<'a, char>);
 
 impl<'a> Fields<'a> {
-    fn line(&mut self) -> Read<Line> {
+    fn line(&mut self, format: Format) -> Read<Line> {
         Ok(match self.word()? {
             "fresh" => Line::Fresh,
             "rule" => Line::Rule(self.rule()?),
@@ -190,11 +239,6 @@ impl<'a> Fields<'a> {
                 log: self.number(LOG)? as usize,
             },
             "pm" => self.packet_memory()?,
-            "control-in" => self.control(|fields| Ok(Data::In(fields.length()?)))?,
-            "control-out" => self.control(|fields| Ok(Data::Out(fields.bytes()?)))?,
-            "control-none" => self.control(|_| Ok(Data::None))?,
-            "bulk-in" => self.bulk(|fields| Ok(Data::In(fields.length()?)))?,
-            "bulk-out" => self.bulk(|fields| Ok(Data::Out(fields.bytes()?)))?,
             "buffer" => Line::Buffer(self.bytes()?),
             "step-in" => self.step(Way::In)?,
             "step-out" => self.step(Way::Out)?,
@@ -220,8 +264,59 @@ impl<'a> Fields<'a> {
                 sie_status: self.register()?,
             },
             "record" => Line::Record,
+            word => match format {
+                Format::Replay => Line::Begin(self.begin(word)?),
+                Format::Callers => self.callers(word)?,
+            },
+        })
+    }
+
+    /// An IN's buffer is all 0 at first.
+    fn begin(&mut self, word: &str) -> Read<Begin> {
+        let request = self.request(word)?;
+        let buffer = match (request.has_buffer(), request.way()) {
+            (false, _) => Vec::new(),
+            (true, Way::In) => vec![0; self.length()?],
+            (true, Way::Out) => self.bytes()?,
+        };
+        Ok(Begin { request, buffer })
+    }
+
+    fn callers(&mut self, word: &str) -> Read<Line> {
+        Ok(match word {
+            "come" => Line::Come(self.coming()?),
+            "look" => Line::Look,
+            "start-control" => start(TransferKind::Control, self.bytes()?),
+            "start-bulk-in" => start(TransferKind::BulkIn, vec![0; self.length()?]),
+            "start-bulk-out" => start(TransferKind::BulkOut, self.bytes()?),
             _ => return Err(Unreadable),
         })
+    }
+
+    fn coming(&mut self) -> Read<Coming> {
+        let caller = self.byte()?;
+        let word = self.word()?;
+        let request = self.request(word)?;
+        let length = match request.has_buffer() {
+            true => self.length()?,
+            false => 0,
+        };
+        Ok(Coming {
+            caller,
+            request,
+            length,
+        })
+    }
+
+    fn request(&mut self, word: &str) -> Read<Request> {
+        match word {
+            "control-in" => self.control(Phase::In),
+            "control-out" => self.control(Phase::Out),
+            "control-none" => self.control(Phase::None),
+            "bulk-in" => self.bulk(Way::In),
+            "bulk-out" => self.bulk(Way::Out),
+            _ => Err(Unreadable),
+        }
     }
 
     fn packet_memory(&mut self) -> Read<Line> {
@@ -236,20 +331,20 @@ impl<'a> Fields<'a> {
         })
     }
 
-    fn control(&mut self, data: impl Fn(&mut Self) -> Read<Data>) -> Read<Line> {
-        Ok(Line::Begin(Begin::Control {
+    fn control(&mut self, phase: Phase) -> Read<Request> {
+        Ok(Request::Control {
             address: self.byte()?,
             preamble: self.bit()?,
             size: self.byte()?,
             setup: hexadecimal(self.word()?)
                 .and_then(|bytes| bytes.try_into().ok())
                 .ok_or(Unreadable)?,
-            data: data(self)?,
-        }))
+            phase,
+        })
     }
 
-    fn bulk(&mut self, data: impl Fn(&mut Self) -> Read<Data>) -> Read<Line> {
-        Ok(Line::Begin(Begin::Bulk {
+    fn bulk(&mut self, way: Way) -> Read<Request> {
+        Ok(Request::Bulk {
             address: self.byte()?,
             endpoint: self.byte()?,
             size: self.size()?,
@@ -259,8 +354,8 @@ impl<'a> Fields<'a> {
                 _ => return Err(Unreadable),
             },
             toggle: self.bit()?,
-            data: data(self)?,
-        }))
+            way,
+        })
     }
 
     fn step(&mut self, way: Way) -> Read<Line> {
@@ -315,6 +410,10 @@ impl<'a> Fields<'a> {
     pub fn bytes(&mut self) -> Read<Vec<u8>> {
         bytes(self.word()?)
     }
+}
+
+fn start(kind: TransferKind, buffer: Vec<u8>) -> Line {
+    Line::Start(Start { kind, buffer })
 }
 
 fn number(word: &str, most: u64) -> Read<u64> {
@@ -386,17 +485,17 @@ mod tests {
     use super::*;
 
     fn read(line: &str) -> Line {
-        parse(line.as_bytes()).unwrap().unwrap()
+        parse(line.as_bytes(), Format::Replay).unwrap().unwrap()
     }
 
     fn wrong(line: &str) -> bool {
-        parse(line.as_bytes()).is_err()
+        parse(line.as_bytes(), Format::Replay).is_err()
     }
 
     #[test]
     fn skips_empty_lines_and_comments() {
-        assert_eq!(parse(b""), Ok(None));
-        assert_eq!(parse(b"# fresh"), Ok(None));
+        assert_eq!(parse(b"", Format::Replay), Ok(None));
+        assert_eq!(parse(b"# fresh", Format::Replay), Ok(None));
         assert!(wrong(" "));
         assert!(wrong(" # fresh"));
     }
@@ -438,7 +537,8 @@ mod tests {
         let line = |length: usize| format!("close {}", "0".repeat(length - 6));
         assert!(!wrong(&line(LONGEST_LINE)));
         assert!(wrong(&line(LONGEST_LINE + 1)));
-        assert_eq!(parse(&[b'#'; LONGEST_LINE + 1]), Ok(None));
+        let comment = [b'#'; LONGEST_LINE + 1];
+        assert_eq!(parse(&comment, Format::Replay), Ok(None));
     }
 
     #[test]
@@ -479,27 +579,37 @@ mod tests {
         assert!(wrong("lend 0 193"));
     }
 
+    const CONTROL_OUT: Request = Request::Control {
+        address: 1,
+        preamble: false,
+        size: 8,
+        setup: [0x21, 9, 0, 0, 0, 0, 10, 0],
+        phase: Phase::Out,
+    };
+
+    const BULK_IN: Request = Request::Bulk {
+        address: 200,
+        endpoint: 16,
+        size: 65535,
+        variable: true,
+        toggle: true,
+        way: Way::In,
+    };
+
     #[test]
     fn reads_begins() {
         assert_eq!(
             read("control-out 1 0 8 2109000000000a00 00"),
-            Line::Begin(Begin::Control {
-                address: 1,
-                preamble: false,
-                size: 8,
-                setup: [0x21, 9, 0, 0, 0, 0, 10, 0],
-                data: Data::Out(vec![0]),
+            Line::Begin(Begin {
+                request: CONTROL_OUT,
+                buffer: vec![0],
             })
         );
         assert_eq!(
             read("bulk-in 200 16 65535 variable 1 131072"),
-            Line::Begin(Begin::Bulk {
-                address: 200,
-                endpoint: 16,
-                size: 65535,
-                variable: true,
-                toggle: true,
-                data: Data::In(131_072),
+            Line::Begin(Begin {
+                request: BULK_IN,
+                buffer: vec![0; 131_072],
             })
         );
         for line in [
@@ -513,6 +623,63 @@ mod tests {
             "bulk-out 1 1 8 fixed 0",
         ] {
             assert!(wrong(line), "{line}");
+        }
+    }
+
+    #[test]
+    fn reads_comings_and_starts() {
+        let read = |line: &str| parse(line.as_bytes(), Format::Callers).unwrap().unwrap();
+        let come = |caller, request, length| {
+            Line::Come(Coming {
+                caller,
+                request,
+                length,
+            })
+        };
+        assert_eq!(
+            read("come 255 control-out 1 0 8 2109000000000a00 131072"),
+            come(255, CONTROL_OUT, 131_072)
+        );
+        assert_eq!(
+            read("come 0 bulk-in 200 16 65535 variable 1 0"),
+            come(0, BULK_IN, 0)
+        );
+        assert_eq!(read("look"), Line::Look);
+        assert_eq!(
+            read("start-control 0102"),
+            start(TransferKind::Control, vec![1, 2])
+        );
+        assert_eq!(
+            read("start-bulk-in 2"),
+            start(TransferKind::BulkIn, vec![0, 0])
+        );
+        assert_eq!(
+            read("start-bulk-out -"),
+            start(TransferKind::BulkOut, vec![])
+        );
+    }
+
+    /// Neither format has the other's lines; what they share is read alike.
+    #[test]
+    fn each_format_begins_transfers_its_own_way() {
+        for (line, format) in [
+            ("control-none 1 0 8 2109000000000a00", Format::Replay),
+            ("bulk-out 1 1 8 fixed 0 00", Format::Replay),
+            (
+                "come 0 control-none 1 0 8 2109000000000a00",
+                Format::Callers,
+            ),
+            ("look", Format::Callers),
+            ("start-bulk-in 0", Format::Callers),
+        ] {
+            for tried in [Format::Replay, Format::Callers] {
+                let read = parse(line.as_bytes(), tried);
+                assert_eq!(read.is_ok(), tried == format, "{line}");
+            }
+        }
+        for line in ["fresh", "rule 2", "step-in 0 8 0", "close 256", "frame 1"] {
+            let read = |format| parse(line.as_bytes(), format);
+            assert_eq!(read(Format::Replay), read(Format::Callers), "{line}");
         }
     }
 }

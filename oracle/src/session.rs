@@ -1,11 +1,12 @@
-//! Plays the lines of a script on a driver.
+//! Plays the lines of a script on a driver and its dispatcher.
 
+use crate::dispatcher::Dispatcher;
 use crate::driver::{Answer, Driver};
 use crate::packets::Packets;
 use crate::record::{Entry, Record, Registers};
 use crate::rules::Lent;
 use crate::runs::{self, Run};
-use crate::script::{DeskRule, Line, Step};
+use crate::script::{Begin, DeskRule, Line, Start, Step};
 use crate::standins::memory::{self, Write};
 
 /// Everything that came of one line.
@@ -28,8 +29,13 @@ pub struct Report {
 
 impl Report {
     fn ok() -> Self {
+        Self::quiet(Answer::Ok)
+    }
+
+    /// Of a line that writes nothing, arms nothing and changes no byte.
+    fn quiet(answer: Answer) -> Self {
         Self {
-            answer: Answer::Ok,
+            answer,
             toggle: None,
             failed: None,
             log: Vec::new(),
@@ -43,6 +49,7 @@ impl Report {
 pub struct Session {
     rule: DeskRule,
     driver: Driver,
+    dispatcher: Dispatcher,
     lent: Lent,
     /// The bytes lent to the next step alone.
     next_buffer: Option<Vec<u8>>,
@@ -64,6 +71,7 @@ impl Session {
         Self {
             rule,
             driver: Driver::fresh(),
+            dispatcher: Dispatcher::default(),
             lent: Lent::whole(),
             next_buffer: None,
             registers: Registers::default(),
@@ -104,13 +112,13 @@ impl Session {
                 let report = self.call(|driver| driver.step(lent, &step, own.as_deref()));
                 self.hand_out(report, Some(&step))
             }
-            Line::Begin(begin) => {
-                let report = self.plain_call(|driver| driver.begin(lent, &begin));
-                if matches!(report.answer, Answer::Begun) {
-                    self.packets = Packets::of(&begin, &report.log);
-                }
-                report
-            }
+            Line::Begin(begin) => self.begin(&begin),
+            Line::Come(coming) => Report::quiet(match self.dispatcher.come(coming) {
+                Ok(()) => Answer::Come,
+                Err(number) => Answer::Refused(number),
+            }),
+            Line::Look => Report::quiet(Answer::Turn(self.dispatcher.look())),
+            Line::Start(start) => self.start(start),
             Line::Cancel => {
                 let report = self.plain_call(Driver::cancel);
                 self.hand_out(report, None)
@@ -125,6 +133,32 @@ impl Session {
                 self.plain_call(|driver| driver.detect(lent, sie_status))
             }
         })
+    }
+
+    fn begin(&mut self, begin: &Begin) -> Report {
+        let lent = self.lent;
+        let report = self.plain_call(|driver| driver.begin(lent, begin));
+        if matches!(report.answer, Answer::Begun) {
+            self.packets = Packets::of(&begin.request, &report.log);
+        }
+        report
+    }
+
+    /// A start "does what begin did". The record's writer, called after a refused one for
+    /// nothing armed, writes nothing.
+    fn start(&mut self, start: Start) -> Report {
+        let lent = self.lent.both();
+        match lent.and_then(|()| self.dispatcher.start(start)) {
+            Ok((caller, begin)) => {
+                let report = self.begin(&begin);
+                assert!(matches!(report.answer, Answer::Begun));
+                Report {
+                    answer: Answer::Started(caller),
+                    ..report
+                }
+            }
+            Err(number) => Report::quiet(Answer::Refused(number)),
+        }
     }
 
     fn plain_call(
@@ -144,6 +178,9 @@ impl Session {
         let log = memory::take_log();
         let after = memory::packet_memory();
         let armed = self.registers.armed(&log, &after);
+        if answer.is_end() {
+            self.dispatcher.end();
+        }
         let failed = self.count(&answer, armed.len() as u32);
         self.record.append(&armed, failed);
         Report {
@@ -184,6 +221,10 @@ impl Session {
         self.entries += armed;
         matches!(answer, Answer::Failed { .. } | Answer::Cancelled { .. })
             .then_some(self.entries)
+    }
+
+    pub fn dispatcher(&self) -> &Dispatcher {
+        &self.dispatcher
     }
 
     /// A register as the logs so far leave it.

@@ -5,7 +5,7 @@ use crate::host_controller::{
 };
 use crate::lent_buffer::LentBuffer;
 use crate::rp2040::Rp2040HostController;
-use crate::script::{Begin, Data, Way};
+use crate::script::{Begin, Phase, Request, Way};
 use crate::standins::rp2040_pac::SlotTooLong;
 use crate::wire::SetupPacket;
 use std::cell::Cell;
@@ -28,24 +28,21 @@ pub struct Transfer {
 impl Transfer {
     /// The call is made, its future not yet polled.
     pub fn new(controller: &'static Rp2040HostController, begin: &Begin) -> Self {
-        let buffer = LentBuffer::new(match begin.data() {
-            Data::Out(bytes) => bytes.clone(),
-            data => vec![0; data.length()],
-        });
+        let buffer = LentBuffer::new(begin.buffer.clone());
         // Sound: the future is dropped before the buffer.
         let lent = unsafe { buffer.lend() };
-        let (future, toggle): (TransferFuture, _) = match *begin {
-            Begin::Control {
+        let (future, toggle): (TransferFuture, _) = match begin.request {
+            Request::Control {
                 address,
                 preamble,
                 size,
                 setup,
-                ref data,
+                phase,
             } => {
-                let phase = match data {
-                    Data::In(_) => DataPhase::In(lent),
-                    Data::Out(_) => DataPhase::Out(lent),
-                    Data::None => DataPhase::None,
+                let phase = match phase {
+                    Phase::In => DataPhase::In(lent),
+                    Phase::Out => DataPhase::Out(lent),
+                    Phase::None => DataPhase::None,
                 };
                 let extras = extras(preamble);
                 let setup = setup_packet(setup);
@@ -53,13 +50,13 @@ impl Transfer {
                     controller.control_transfer(address, extras, size, setup, phase);
                 (Box::pin(future), None)
             }
-            Begin::Bulk {
+            Request::Bulk {
                 address,
                 endpoint,
                 size,
                 variable,
                 toggle,
-                ref data,
+                way,
             } => {
                 let kind = match variable {
                     false => TransferType::FixedSize,
@@ -67,9 +64,8 @@ impl Transfer {
                 };
                 let toggle = Rc::new(Cell::new(toggle));
                 let held = toggle.clone();
-                let is_in = data.way() == Way::In;
                 let future = async move {
-                    if is_in {
+                    if way == Way::In {
                         controller
                             .bulk_in_transfer(address, endpoint, size, lent, kind, &held)
                             .await
@@ -86,7 +82,7 @@ impl Transfer {
             future,
             buffer,
             toggle,
-            way: begin.data().way(),
+            way: begin.request.way(),
         }
     }
 

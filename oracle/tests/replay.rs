@@ -18,7 +18,11 @@ fn oracle(arguments: &[&str], script: &Path) -> Output {
 }
 
 fn check(name: &str) {
-    let output = oracle(&[], &scripts().join(name).with_extension("script"));
+    check_played(&[], name);
+}
+
+fn check_played(arguments: &[&str], name: &str) {
+    let output = oracle(arguments, &scripts().join(name).with_extension("script"));
     let expected = scripts().join(name).with_extension("expected");
     assert!(output.status.success());
     assert_eq!(
@@ -63,6 +67,17 @@ fn failed_transfers() {
 #[test]
 fn unreadable_lines() {
     check("unreadable");
+}
+
+/// The smallest lists of comings, looks and starts.
+#[test]
+fn callers() {
+    check_played(&["callers"], "callers");
+}
+
+#[test]
+fn unreadable_lines_of_callers() {
+    check_played(&["callers"], "callers-unreadable");
 }
 
 /// The stored output of a program is what the oracle prints.
@@ -116,9 +131,16 @@ fn bad_arguments_are_refused() {
         &["gen"][..],
         &["gen", "1", "1", "worse"],
         &["gen", "x", "1", "well"],
+        &["gen", "1", "1", "well", "3"],
+        &["gen-callers", "1", "1", "worse"],
+        &["gen-callers", "1", "1", "well", "1"],
         &["vectors", "1"],
+        &["callers", "1"],
+        &["callers-vectors", "1"],
         &["compare", "cat", "1"],
         &["compare", "cat", "1", "x"],
+        &["compare-callers", "cat", "1"],
+        &["compare-callers", "cat", "1", "x"],
         &["compare-descriptors", "cat", "1"],
         &["compare-bytes", "cat", "1", "1"],
         &["descriptors", "1"],
@@ -128,25 +150,47 @@ fn bad_arguments_are_refused() {
     }
 }
 
-/// The oracle plays every script as itself.
-#[test]
-fn compares_equal_with_itself() {
+fn compare_with_itself(compare: &str, own: &str) {
     let script = scripts().join("golden.script");
-    let own = env!("CARGO_BIN_EXE_oracle");
-    let output = oracle(&["compare", own, "1", "2000"], &script);
+    let output = oracle(&[compare, own, "1", "2000"], &script);
     let text = String::from_utf8(output.stdout).unwrap();
     assert!(output.status.success(), "{text}");
     assert_eq!(text.lines().count(), 5);
     assert!(text.ends_with(" calls, 0 differences\n"), "{text}");
 }
 
+/// The oracle plays every script as itself.
+#[test]
+fn compares_equal_with_itself() {
+    compare_with_itself("compare", env!("CARGO_BIN_EXE_oracle"));
+}
+
+#[test]
+fn compares_callers_equal_with_itself() {
+    let own = std::env::temp_dir().join(format!("callers-{}", std::process::id()));
+    let text = format!(
+        "#!/bin/sh\nexec '{}' callers\n",
+        env!("CARGO_BIN_EXE_oracle")
+    );
+    // Written by another process: a file can't be run while a child that some other test
+    // starts still has it open.
+    let write = "printf %s \"$1\" > \"$0\" && chmod +x \"$0\"";
+    let mut shell = Command::new("sh");
+    shell.args(["-c", write]).arg(&own).arg(text);
+    assert!(shell.status().unwrap().success());
+    compare_with_itself("compare-callers", own.to_str().unwrap());
+    fs::remove_file(own).unwrap();
+}
+
 #[test]
 fn a_comparison_ends_at_the_first_difference() {
     let script = scripts().join("golden.script");
-    let output = oracle(&["compare", "cat", "1", "2000"], &script);
-    let text = String::from_utf8(output.stdout).unwrap();
-    assert_eq!(output.status.code(), Some(1));
-    assert!(text.starts_with("well 1: 500 calls, different\nscript line 1: fresh\n"));
+    for compare in ["compare", "compare-callers"] {
+        let output = oracle(&[compare, "cat", "1", "2000"], &script);
+        let text = String::from_utf8(output.stdout).unwrap();
+        assert_eq!(output.status.code(), Some(1));
+        assert!(text.starts_with("well 1: 500 calls, different\nscript line 1: fresh\n"));
+    }
     for subject in [
         "compare-descriptors",
         "compare-packets",

@@ -85,7 +85,7 @@ pub(crate) fn busy(address: u8, size: u8, kind: Kind, stage: Stage) -> Transfer 
     })
 }
 
-fn driver(t: Transfer) -> Driver {
+pub(crate) fn driver(t: Transfer) -> Driver {
     let d = Driver::new(DeskRule::One);
     let pipes = d.pipes;
     let last = d.last;
@@ -98,7 +98,7 @@ fn driver(t: Transfer) -> Driver {
     }
 }
 
-fn print_refusal(why: Refusal) {
+pub(crate) fn print_refusal(why: Refusal) {
     io::write_all(STDOUT_FILENO, b" ");
     io::print_decimal(STDOUT_FILENO, number(why) as u64);
 }

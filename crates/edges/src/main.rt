@@ -1,6 +1,8 @@
 // Runs what no replay script can give: smallest inputs of docs/DIFFERENCES.md, and forged states at the bounds of 16.
 mod bounds;
+mod callers;
 mod forged;
+mod kept;
 mod stages;
 
 use cutting::packetiser::OptionArm;
@@ -69,4 +71,5 @@ fn main() {
     packets();
     stages::stages();
     bounds::bounds();
+    callers::callers();
 }

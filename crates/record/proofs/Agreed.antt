@@ -27,7 +27,8 @@ use Rattle.transfers.specs.Calls.{stepIf, mayStep, stepLent, stepOf, cancelIf, 
 use Rattle.transfers.specs.Driver.{fresh}
 use Rattle.record.specs.Wire.{File}
 use Rattle.record.specs.Calls.{Begin, controlBegin, bulkBegin, Call, begin, step, cancel, openPipe, closePipe, pollPipe, interrupt, detect, call, beginning}
-use Rattle.record.specs.Told.{Live, noTransfer, live, Note, began, stepped, finished, broke, nothing, noteStep, note, Told, untold}
+use Rattle.record.specs.Told.{Live, noTransfer, live, Note, began, stepped, finished, broke, nothing, Told, untold}
+use Rattle.record.specs.Shown.{noteStep, note, shown}
 use Rattle.record.specs.Fates.{underWay, fate}
 use Rattle.record.specs.Record.{failure}
 use Rattle.record.specs.Segments.{Element, failedEntry}
@@ -177,13 +178,13 @@ begin-row : (l : Live) (t : Transfer) (x : Begin) (buf m log : List ℕ) → Agr
 unfolding beginControlOf beginBulkInOf beginBulkOutOf
 begin-row l t (controlBegin a z p s ph) buf m log h =
     row (eqb (length m) 4096 && leb 192 (length log)) (isIdle t) (leb a 127) true (leb 1 p && leb p 64) true t m (beginsControl a z p s ph (length buf) m) refl
-    ∙ ap (λ (i : Bool). unless (eqb (length m) 4096 && leb 192 (length log)) 15 (unless i 8 (fieldsRow (controlBegin a z p s ph) buf))) (idle-free l t h)
+    ∙ ap (λ (i : Bool). unless (eqb (length m) 4096 && leb 192 (length log)) 15 (unless i 8 (fieldsRow (controlBegin a z p s ph) (length buf)))) (idle-free l t h)
 begin-row l t (bulkBegin In a e p k b) buf m log h =
     row (eqb (length m) 4096 && leb 192 (length log)) (isIdle t) (leb a 127) (leb 1 e && leb e 15) (leb 1 p && leb p 64) (leb (length buf) 65535) t m (beginsBulkIn (bulkRequest In a e p b (length buf)) k m) refl
-    ∙ ap (λ (i : Bool). unless (eqb (length m) 4096 && leb 192 (length log)) 15 (unless i 8 (fieldsRow (bulkBegin In a e p k b) buf))) (idle-free l t h)
+    ∙ ap (λ (i : Bool). unless (eqb (length m) 4096 && leb 192 (length log)) 15 (unless i 8 (fieldsRow (bulkBegin In a e p k b) (length buf)))) (idle-free l t h)
 begin-row l t (bulkBegin Out a e p k b) buf m log h =
     row (eqb (length m) 4096 && leb 192 (length log)) (isIdle t) (leb a 127) (leb 1 e && leb e 15) (leb 1 p && leb p 64) (leb (length buf) 65535) t m (beginsBulkOut (bulkRequest Out a e p b (length buf)) e k buf m) refl
-    ∙ ap (λ (i : Bool). unless (eqb (length m) 4096 && leb 192 (length log)) 15 (unless i 8 (fieldsRow (bulkBegin Out a e p k b) buf))) (idle-free l t h)
+    ∙ ap (λ (i : Bool). unless (eqb (length m) 4096 && leb 192 (length log)) 15 (unless i 8 (fieldsRow (bulkBegin Out a e p k b) (length buf)))) (idle-free l t h)
 
 call-row : (c : Call) (d : Driver) (l : Live) → Agrees l (d .transfer) → Row l c (call d c .answer)
 unfolding call
@@ -201,7 +202,7 @@ unfolding TableFrom
 table-from [] t d h = tt
 table-from (c ∷ cs) t d h =
     let o = call d c in
-    (call-row c d (t .live) h, subst (λ (u : Told). TableFrom u (o .next) cs) (hears-is t c o) (table-from cs (after t c o) (o .next) (call-agrees c d (t .live) h)))
+    (call-row c d (t .live) h, subst (λ (u : Told). TableFrom u (o .next) cs) (hears-is t (shown c o)) (table-from cs (after t (shown c o)) (o .next) (call-agrees c d (t .live) h)))
 
 pub table : (rule : DeskRule) (f : File) (cs : List Call) → TableFrom (untold f) (fresh rule) cs
 table rule f cs = table-from cs (untold f) (fresh rule) tt

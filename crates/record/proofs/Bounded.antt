@@ -48,7 +48,7 @@ use Rattle.transfers.specs.Outcome.{Outcome, startIn, startOut, entersIn, enter
 use Rattle.transfers.specs.Step.{setupDone, setupStep, inReceived, inDone, inSecondDone, inFirstDone, inComplete, inRearm, inSecondMoved, inFirstMoved, inMove, inStep, outPackets, outRetireTwo, outControlDone, outDone, outComplete, outMove, outStep, lent, keeping, polls, acts}
 use Rattle.transfers.specs.Calls.{Beginning, beginsControl, beginsBulkIn, beginsBulkOut}
 use Rattle.transfers.specs.Entries.{armedCount}
-use Rattle.record.specs.Told.{ends}
+use Rattle.record.specs.Shown.{ends}
 use Rattle.record.proofs.Stepping.{found-ends}
 
 -- ---- the bound

@@ -26,6 +26,7 @@ use Rattle.record.specs.Armed.{setupEntry}
 use Rattle.record.specs.Asked.{AllTyped, Words, TypedSetup, Begun, outEntry, armedBy}
 use Rattle.record.specs.Fates.{begunFrom}
 use Rattle.record.specs.Told.{noTransfer, notArmed}
+use Rattle.record.specs.Shown.{shownFrom}
 use Rattle.record.proofs.Unbroken.{entriesFrom, UnbrokenFrom}
 use Rattle.record.proofs.Cuts.{cutAt, cut-is, cut-more, cut-last}
 use Rattle.record.proofs.Begins.{Checked}
@@ -175,7 +176,7 @@ module _ (m log : List ℕ) (fits : lentFits m log ≡ true) (mb : Bytes m) (lw 
     is : armedByAll begun ≡ partsEntries qs
 
   find : (qs : List Part) → AllFit qs → Found qs
-  unfolding begunFrom UnbrokenFrom
+  unfolding begunFrom UnbrokenFrom shownFrom
   find [] h = record { calls = []; begun = []; free = record { typed = tt; premises = λ n w f d r. refl; begun = λ d r. refl }; is = refl }
   find (q ∷ qs) h =
       let r = find qs (h .1) in

@@ -38,7 +38,8 @@ use Rattle.record.specs.Wire.{File, wire}
 use Rattle.record.specs.Armed.{setupsArmed, outsArmed, entriesArmed}
 use Rattle.record.specs.Calls.{Begin, controlBegin, bulkBegin, Call, begin, step, cancel, openPipe, closePipe, pollPipe, interrupt, detect, call, beginning}
 use Rattle.record.specs.Asked.{AllTyped}
-use Rattle.record.specs.Told.{ends, Note, stepped, broke, noteStep, note, Told, untold}
+use Rattle.record.specs.Told.{Note, stepped, broke, Told, untold}
+use Rattle.record.specs.Shown.{ends, noteStep, note, shown, shownFrom}
 use Rattle.record.specs.Fates.{underWay, fate}
 use Rattle.record.specs.Record.{failure, recordFrom, counted, answeredFrom, CountsTo}
 use Rattle.record.specs.Term3.{wireRecord}
@@ -188,8 +189,8 @@ call-right (interrupt ints status log) d n c = record { count = count-none (d .t
 call-right (detect sie log) d n c = record { count = count-none (d .transfer) (d .entries) n c; says = refl; small = tt }
 
 answered-elements : (cs : List Call) (t : Told) (d : Driver) → AllTyped cs → Known (t .file) (d .transfer) → Count (d .transfer) (d .entries) (t .armings) → Agrees (t .live) (d .transfer)
-    → recordFrom t d cs ≡ answeredFrom d cs
-unfolding recordFrom answeredFrom
+    → recordFrom t (shownFrom d cs) ≡ answeredFrom (shownFrom d cs)
+unfolding recordFrom answeredFrom shownFrom
 answered-elements [] t d ty i c a = refl
 answered-elements (x ∷ cs) t d ty i c a =
     let o = call d x in
@@ -198,13 +199,13 @@ answered-elements (x ∷ cs) t d ty i c a =
     let j : length (wire f (o .writes) (o .memory)) ≡ armedCount (o .armed) = ap length (k .is) ∙ length-armed (o .memory) (o .armed) in
     let r : CallRight d x (t .armings) (length (wire f (o .writes) (o .memory))) = subst (CallRight d x (t .armings)) (sym j) (call-right x d (t .armings) c) in
     let g = fate (note x (o .answer)) (underWay (t .live)) in
-    subst (λ (u : Told). map entry (wire f (o .writes) (o .memory)) ++ (failure g (u .armings) ++ recordFrom u (o .next) cs) ≡ answeredFrom d (x ∷ cs)) (hears-is t x o)
+    subst (λ (u : Told). map entry (wire f (o .writes) (o .memory)) ++ (failure g (u .armings) ++ recordFrom u (shownFrom (o .next) cs)) ≡ answeredFrom (shownFrom d (x ∷ cs))) (hears-is t (shown x o))
     (ap₂ {C = List Element} _++_ (ap (map entry) (k .is))
-    (ap₂ {C = List Element} _++_ (call-failure x d (t .live) (after t x o .armings) a ∙ r .says)
-    (answered-elements cs (after t x o) (o .next) (ty .1) (k .known) (r .count) (call-agrees x d (t .live) a))))
+    (ap₂ {C = List Element} _++_ (call-failure x d (t .live) (after t (shown x o) .armings) a ∙ r .says)
+    (answered-elements cs (after t (shown x o)) (o .next) (ty .1) (k .known) (r .count) (call-agrees x d (t .live) a))))
 
 -- What begin, step and cancel answer is the record of version 2. No premise.
-pub answered : (rule : DeskRule) (f : File) (cs : List Call) → AllTyped cs → wireRecord rule f cs ≡ answeredFrom (fresh rule) cs
+pub answered : (rule : DeskRule) (f : File) (cs : List Call) → AllTyped cs → wireRecord f (shownFrom (fresh rule) cs) ≡ answeredFrom (shownFrom (fresh rule) cs)
 answered rule f cs ty = answered-elements cs (untold f) (fresh rule) ty tt tt tt
 
 -- ---- no count is above 65,536
@@ -217,18 +218,18 @@ counted-small : (x : OptionEntries) (ms : List Element) → CountsTo 65536 (coun
 counted-small noCount ms s h = h
 counted-small (someCount n) ms s h = (s .0, h)
 
-small-from : (cs : List Call) (d : Driver) (n : ℕ) → Count (d .transfer) (d .entries) n → CountsTo 65536 (answeredFrom d cs)
-unfolding answeredFrom
+small-from : (cs : List Call) (d : Driver) (n : ℕ) → Count (d .transfer) (d .entries) n → CountsTo 65536 (answeredFrom (shownFrom d cs))
+unfolding answeredFrom shownFrom
 small-from [] d n c = tt
 small-from (x ∷ cs) d n c =
     let o = call d x in
     let r = call-right x d n c in
-    entries-small (entriesArmed (o .memory) (o .armed)) (counted (o .failed) ++ answeredFrom (o .next) cs)
-    (counted-small (o .failed) (answeredFrom (o .next) cs) (r .small) (small-from cs (o .next) (since (note x (o .answer)) n (armedCount (o .armed))) (r .count)))
+    entries-small (entriesArmed (o .memory) (o .armed)) (counted (o .failed) ++ answeredFrom (shownFrom (o .next) cs))
+    (counted-small (o .failed) (answeredFrom (shownFrom (o .next) cs)) (r .small) (small-from cs (o .next) (since (note x (o .answer)) n (armedCount (o .armed))) (r .count)))
 
 -- Neither those that are answered nor those of the record: 32 bits hold them.
-pub answered-small : (rule : DeskRule) (cs : List Call) → CountsTo 65536 (answeredFrom (fresh rule) cs)
+pub answered-small : (rule : DeskRule) (cs : List Call) → CountsTo 65536 (answeredFrom (shownFrom (fresh rule) cs))
 answered-small rule cs = small-from cs (fresh rule) 0 tt
 
-pub counts-small : (rule : DeskRule) (f : File) (cs : List Call) → AllTyped cs → CountsTo 65536 (wireRecord rule f cs)
+pub counts-small : (rule : DeskRule) (f : File) (cs : List Call) → AllTyped cs → CountsTo 65536 (wireRecord f (shownFrom (fresh rule) cs))
 counts-small rule f cs ty = subst (CountsTo 65536) (sym (answered rule f cs ty)) (answered-small rule cs)

@@ -2,9 +2,11 @@
 use mathlib.Core.List.{List, [], _∷_, _++_}
 use native.Mathlib.Omega.{arith}
 use Rattle.transfers.specs.declared.driver.DeskRule.the-variants.{One}
+use Rattle.transfers.specs.Driver.{fresh}
 use Rattle.record.specs.Grammar.{Bytes}
 use Rattle.record.specs.Calls.{Call}
 use Rattle.record.specs.Asked.{Words, TypedSample, AllTyped}
+use Rattle.record.specs.Shown.{shownFrom}
 use Rattle.record.specs.Example.{lentMemory, lentLog, completing, stalling, noBits, threeBytes, configureCalls, threeCalls, twoCalls, two-transfers, fiveBytes, stalledCalls, cancelledCalls, fourCalls, four-transfers}
 use Rattle.record.specs.Term3.{Recorded}
 use Rattle.record.proofs.Comes.{zeros, zero-words}
@@ -47,10 +49,10 @@ stalled-typed = (((omega arith, omega arith, omega arith), five-bytes, memory-ty
 cancelled-typed : AllTyped cancelledCalls
 cancelled-typed = (((omega arith, omega arith, omega arith), three-bytes, memory-typed, log-typed), (tt, tt))
 
-pub two-recorded : Recorded One noBits twoCalls
+pub two-recorded : Recorded noBits (shownFrom (fresh One) twoCalls)
 two-recorded = recorded One noBits twoCalls (typed-append configureCalls threeCalls configure-typed three-typed) (two-transfers .premises)
 
-pub four-recorded : Recorded One noBits fourCalls
+pub four-recorded : Recorded noBits (shownFrom (fresh One) fourCalls)
 four-recorded =
     recorded One noBits fourCalls
     (typed-append stalledCalls (configureCalls ++ (cancelledCalls ++ threeCalls)) stalled-typed

@@ -57,7 +57,8 @@ use Rattle.transfers.specs.Entries.{armedCount, entriesBegun, entriesStepped}
 use Rattle.transfers.specs.Driver.{fresh, withTransfer}
 use Rattle.record.specs.Calls.{Begin, controlBegin, bulkBegin, Call, begin, step, beginning, call}
 use Rattle.record.specs.Asked.{Words, TypedSample, TypedBegin, AllTyped, Begun}
-use Rattle.record.specs.Told.{noTransfer, live, Watch, notArmed, inSlot, taken, seen, marks, finds, ends, stepped, broke, noteStep, note}
+use Rattle.record.specs.Told.{noTransfer, live, Watch, notArmed, inSlot, taken, seen, marks, finds, stepped, broke}
+use Rattle.record.specs.Shown.{ends, noteStep, note, shownFrom}
 use Rattle.record.specs.Premises.{sendsNext, LentIts, LentIf, TakenIf, CallGood, CallLent, Unrefused}
 use Rattle.record.specs.Fates.{begunBy, begunFrom}
 use Rattle.record.proofs.Heard.{nextLive, nextWatch, nextCount, breaks}
@@ -171,7 +172,7 @@ Rest d = d .transfer ≡ Idle
 pub record Free (cs : List Call) (gs : List Begun) : Type 0 where
   pub typed : AllTyped cs
   pub premises : (n : ℕ) (w : Watch) (f : File) (d : Driver) → Rest d → UnbrokenFrom noTransfer n w f d cs
-  pub begun : (d : Driver) → Rest d → begunFrom d cs ≡ gs
+  pub begun : (d : Driver) → Rest d → begunFrom (shownFrom d cs) ≡ gs
 
 -- A transfer in front of a list.
 pub record Run (g : Begun) (gs : List Begun) : Type 0 where
@@ -192,7 +193,7 @@ module _ (m log : List ℕ) (fits : lentFits m log ≡ true) (mb : Bytes m) (lw 
   record Fin (e : Driver) (x : Begin) (buf : List ℕ) (n : ℕ) (w : Watch) (f : File) (t : Transfer) (cs : List Call) : Type 0 where
     typed : AllTyped cs
     premises : (k : ℕ) → UnbrokenFrom (live x buf) n w f (withTransfer e t k) cs
-    begun : (k : ℕ) → begunFrom (withTransfer e t k) cs ≡ gs
+    begun : (k : ℕ) → begunFrom (shownFrom (withTransfer e t k) cs) ≡ gs
 
   -- The same after a step's outcome.
   record Goes (e : Driver) (x : Begin) (buf : List ℕ) (n : ℕ) (w : Watch) (f : File) (y : Sample) (o : Outcome) (cs : List Call) : Type 0 where
@@ -202,20 +203,20 @@ module _ (m log : List ℕ) (fits : lentFits m log ≡ true) (mb : Bytes m) (lw 
     lends : CallLent (noteStep (o .answer) y buf) (live x buf)
     unrefused : (b : Bool) → Unrefused (step b y buf m log) (o .answer)
     premises : (k : ℕ) → UnbrokenFrom (nextLive (noteStep (o .answer) y buf) (live x buf)) (nextCount (noteStep (o .answer) y buf) n) (nextWatch (noteStep (o .answer) y buf) w (events f (o .writes))) (performs f (o .writes)) (withTransfer e (o .next) k) cs
-    begun : (k : ℕ) → begunFrom (withTransfer e (o .next) k) cs ≡ gs
+    begun : (k : ℕ) → begunFrom (shownFrom (withTransfer e (o .next) k) cs) ≡ gs
 
   module _ (e : Driver) (x : Begin) (buf : List ℕ) (n : ℕ) (w : Watch) (f : File) where
     fin-step : (b : Bool) (t : Transfer) (y : Sample) (cs : List Call) (o : Outcome) → Bytes buf → TypedSample y → stepOf b t y buf m log ≡ o → Goes e x buf n w f y o cs
         → Fin e x buf n w f t (step b y buf m log ∷ cs)
-    unfolding UnbrokenFrom begunFrom call
+    unfolding UnbrokenFrom begunFrom call shownFrom
     fin-step b t y cs o bb ty q g = record {
       typed = ((ty, bb, mb, lw), g .typed);
       premises = λ k. subst (λ (o : Outcome). (breaks (noteStep (o .answer) y buf) ≡ false) × CallGood (noteStep (o .answer) y buf) (live x buf) n w (events f (o .writes))
           × (CallLent (noteStep (o .answer) y buf) (live x buf) × Unrefused (step b y buf m log) (o .answer))
           × UnbrokenFrom (nextLive (noteStep (o .answer) y buf) (live x buf)) (nextCount (noteStep (o .answer) y buf) n) (nextWatch (noteStep (o .answer) y buf) w (events f (o .writes))) (performs f (o .writes)) (withTransfer e (o .next) (entriesStepped (o .answer) k (o .armed))) cs) (sym q)
           (g .counts, g .good, (g .lends, g .unrefused b), g .premises (entriesStepped (o .answer) k (o .armed)));
-      begun = λ k. subst (λ (o : Outcome). begunBy (noteStep (o .answer) y buf) ++ begunFrom (withTransfer e (o .next) (entriesStepped (o .answer) k (o .armed))) cs ≡ gs) (sym q)
-          (ap (λ (l : List Begun). l ++ begunFrom (withTransfer e (o .next) (entriesStepped (o .answer) k (o .armed))) cs) (none-begun (o .answer) y buf) ∙ g .begun (entriesStepped (o .answer) k (o .armed)));
+      begun = λ k. subst (λ (o : Outcome). begunBy (noteStep (o .answer) y buf) ++ begunFrom (shownFrom (withTransfer e (o .next) (entriesStepped (o .answer) k (o .armed))) cs) ≡ gs) (sym q)
+          (ap (λ (l : List Begun). l ++ begunFrom (shownFrom (withTransfer e (o .next) (entriesStepped (o .answer) k (o .armed))) cs)) (none-begun (o .answer) y buf) ∙ g .begun (entriesStepped (o .answer) k (o .armed)));
     }
 
     goes-wait : (y : Sample) (st : Stage) (again : Bool) (am : Armed) (ws : List Write) (m′ bf : List ℕ) (cs : List Call) (c : Bool) → finds y ≡ c
@@ -368,7 +369,7 @@ module _ (m log : List ℕ) (fits : lentFits m log ≡ true) (mb : Bytes m) (lw 
 
   begin-run : (x : Begin) (buf : List ℕ) (cs : List Call) (o : Beginning) → TypedBegin x → Bytes buf → beginning Idle x buf m log ≡ o → o .answer ≡ accepted
       → ((e : Driver) (f : File) → Fin e x buf 0 (marks notArmed (events f (o .writes))) (performs f (o .writes)) (o .next) cs) → Run (record { fields = x; buffer = buf }) gs
-  unfolding UnbrokenFrom begunFrom call
+  unfolding UnbrokenFrom begunFrom call shownFrom
   begin-run x buf cs o ty bb q a fin =
       let c = begin x buf m log in
       record {
@@ -385,9 +386,9 @@ module _ (m log : List ℕ) (fits : lentFits m log ≡ true) (mb : Bytes m) (lw 
               × UnbrokenFrom (nextLive (note c v) noTransfer) (nextCount (note c v) n) (nextWatch (note c v) w (events f (o .writes))) (performs f (o .writes)) (withTransfer d (o .next) (entriesBegun v (d .entries) (o .armed))) cs)
               (sym a) (refl, tt, (tt, tt), fin d f .premises (armedCount (o .armed))));
           begun = λ d r.
-              subst (λ (o : Beginning). begunBy (note c (o .answer)) ++ begunFrom (withTransfer d (o .next) (entriesBegun (o .answer) (d .entries) (o .armed))) cs ≡ record { fields = x; buffer = buf } ∷ gs)
+              subst (λ (o : Beginning). begunBy (note c (o .answer)) ++ begunFrom (shownFrom (withTransfer d (o .next) (entriesBegun (o .answer) (d .entries) (o .armed))) cs) ≡ record { fields = x; buffer = buf } ∷ gs)
               (sym (ap (λ (t : Transfer). beginning t x buf m log) r ∙ q))
-              (subst (λ (v : BeginAnswer). begunBy (note c v) ++ begunFrom (withTransfer d (o .next) (entriesBegun v (d .entries) (o .armed))) cs ≡ record { fields = x; buffer = buf } ∷ gs)
+              (subst (λ (v : BeginAnswer). begunBy (note c v) ++ begunFrom (shownFrom (withTransfer d (o .next) (entriesBegun v (d .entries) (o .armed))) cs) ≡ record { fields = x; buffer = buf } ∷ gs)
               (sym a) (ap (λ (l : List Begun). record { fields = x; buffer = buf } ∷ l) (fin d (λ k. 0) .begun (armedCount (o .armed)))));
         };
       }

@@ -32,7 +32,8 @@ use Rattle.record.specs.Wire.{File, wire}
 use Rattle.record.specs.Armed.{lowBytes, highBytes, setupEntry}
 use Rattle.record.specs.Calls.{Begin, controlBegin, bulkBegin, Call, begin, step, cancel, openPipe, closePipe, pollPipe, interrupt, detect, call, beginning}
 use Rattle.record.specs.Asked.{Typed, AllTyped, Begun, armedBy, itemOf, listed}
-use Rattle.record.specs.Told.{Live, noTransfer, live, Watch, ends, Note, began, stepped, finished, broke, nothing, noteStep, note, Told, untold}
+use Rattle.record.specs.Told.{Live, noTransfer, live, Watch, Note, began, stepped, finished, broke, nothing, Told, untold}
+use Rattle.record.specs.Shown.{ends, noteStep, note, shown, shownFrom}
 use Rattle.record.specs.Premises.{PremisesFrom}
 use Rattle.record.specs.Record.{failure, recordFrom}
 use Rattle.record.specs.Fates.{begunBy, begunFrom, Fate, done, broken, underWay, fate, fatesFrom, allOf, endedOf, brokenOf, FirstOf, FirstsOf, Made}
@@ -322,8 +323,8 @@ inv-agrees (live x buf) n w f Idle rest i = absurd i
 inv-agrees (live x buf) n w f (Busy r) rest i = tt
 
 reads-from : (cs : List Call) (t : Told) (d : Driver) (rest so : List Entry) → AllTyped cs → Inv (t .live) (t .stages) (t .watch) (t .file) (d .transfer) rest → Match (t .live) so rest (t .armings)
-    → PremisesFrom t d cs → Reads (fatesFrom t d cs) (map entry so ++ recordFrom t d cs)
-unfolding recordFrom fatesFrom PremisesFrom
+    → PremisesFrom t (shownFrom d cs) → Reads (fatesFrom t (shownFrom d cs)) (map entry so ++ recordFrom t (shownFrom d cs))
+unfolding recordFrom fatesFrom PremisesFrom shownFrom
 reads-from [] t d rest so ty i m h =
     let e : so ≡ [] = subst (λ (u : Live). Match u so rest (t .armings)) h m in
     subst (λ (u : List Entry). Reads [] (map entry u ++ [])) (sym e)
@@ -333,13 +334,13 @@ reads-from (c ∷ cs) t d rest so ty i m h =
     let k = note c (o .answer) in
     let l = t .live in
     let f = t .file in
-    let u = after t c o in
-    let p : PremisesFrom u (o .next) cs = subst (λ (v : Told). PremisesFrom v (o .next) cs) (sym (hears-is t c o)) (h .1) in
+    let u = after t (shown c o) in
+    let p : PremisesFrom u (shownFrom (o .next) cs) = subst (λ (v : Told). PremisesFrom v (shownFrom (o .next) cs)) (sym (hears-is t (shown c o))) (h .1) in
     let q = call-kept c d l (t .stages) (t .watch) f rest (ty .0) i (h .0) in
     let now = wire f (o .writes) (o .memory) in
-    let fs = fatesFrom u (o .next) cs in
-    let ms = recordFrom u (o .next) cs in
-    subst (λ (v : Told). Reads (fate k (underWay l) ++ fatesFrom v (o .next) cs) (map entry so ++ (map entry now ++ (failure (fate k (underWay l)) (v .armings) ++ recordFrom v (o .next) cs)))) (hears-is t c o)
+    let fs = fatesFrom u (shownFrom (o .next) cs) in
+    let ms = recordFrom u (shownFrom (o .next) cs) in
+    subst (λ (v : Told). Reads (fate k (underWay l) ++ fatesFrom v (shownFrom (o .next) cs)) (map entry so ++ (map entry now ++ (failure (fate k (underWay l)) (v .armings) ++ recordFrom v (shownFrom (o .next) cs))))) (hears-is t (shown c o))
     (subst (λ (v : List Element). Reads (fate k (underWay l) ++ fs) (map entry so ++ (map entry now ++ (v ++ ms))))
     (sym (call-failure c d l (u .armings) (inv-agrees l (t .stages) (t .watch) f (d .transfer) rest i)))
     (tells so rest (q .rest′) now (t .armings) fs ms k l m
@@ -369,21 +370,21 @@ module _ (fs : List Fate) (bs : List Begun) where
   one-fate broke l z ih = all-broken (underWay l) fs ∙ ap (λ (v : List Begun). underWay l ++ v) ih
   one-fate nothing l z ih = ih
 
-fates-from : (cs : List Call) (t : Told) (d : Driver) (rest : List Entry) → AllTyped cs → Inv (t .live) (t .stages) (t .watch) (t .file) (d .transfer) rest → PremisesFrom t d cs
-    → allOf (fatesFrom t d cs) ≡ underWay (t .live) ++ begunFrom d cs
-unfolding fatesFrom begunFrom PremisesFrom
+fates-from : (cs : List Call) (t : Told) (d : Driver) (rest : List Entry) → AllTyped cs → Inv (t .live) (t .stages) (t .watch) (t .file) (d .transfer) rest → PremisesFrom t (shownFrom d cs)
+    → allOf (fatesFrom t (shownFrom d cs)) ≡ underWay (t .live) ++ begunFrom (shownFrom d cs)
+unfolding fatesFrom begunFrom PremisesFrom shownFrom
 fates-from [] t d rest ty i h = ap (λ (u : Live). underWay u ++ []) (sym h)
 fates-from (c ∷ cs) t d rest ty i h =
     let o = call d c in
-    let u = after t c o in
-    let p : PremisesFrom u (o .next) cs = subst (λ (v : Told). PremisesFrom v (o .next) cs) (sym (hears-is t c o)) (h .1) in
+    let u = after t (shown c o) in
+    let p : PremisesFrom u (shownFrom (o .next) cs) = subst (λ (v : Told). PremisesFrom v (shownFrom (o .next) cs)) (sym (hears-is t (shown c o))) (h .1) in
     let q = call-kept c d (t .live) (t .stages) (t .watch) (t .file) rest (ty .0) i (h .0) in
-    subst (λ (v : Told). allOf (fate (note c (o .answer)) (underWay (t .live)) ++ fatesFrom v (o .next) cs) ≡ underWay (t .live) ++ begunFrom d (c ∷ cs)) (hears-is t c o)
-    (one-fate (fatesFrom u (o .next) cs) (begunFrom (o .next) cs) (note c (o .answer)) (t .live) (λ x buf e. began-idle c d (t .live) (t .stages) (t .watch) (t .file) rest (ty .0) i x buf e .0)
+    subst (λ (v : Told). allOf (fate (note c (o .answer)) (underWay (t .live)) ++ fatesFrom v (shownFrom (o .next) cs)) ≡ underWay (t .live) ++ begunFrom (shownFrom d (c ∷ cs))) (hears-is t (shown c o))
+    (one-fate (fatesFrom u (shownFrom (o .next) cs)) (begunFrom (shownFrom (o .next) cs)) (note c (o .answer)) (t .live) (λ x buf e. began-idle c d (t .live) (t .stages) (t .watch) (t .file) rest (ty .0) i x buf e .0)
     (fates-from cs u (o .next) (q .rest′) (ty .1) (q .inv) p))
 
 -- From a fresh driver, over any registers.
-pub recorded : (rule : DeskRule) (f : File) (cs : List Call) → AllTyped cs → Premises rule f cs → Recorded rule f cs
+pub recorded : (rule : DeskRule) (f : File) (cs : List Call) → AllTyped cs → Premises f (shownFrom (fresh rule) cs) → Recorded f (shownFrom (fresh rule) cs)
 recorded rule f cs ty h =
     let k = reads-from cs (untold f) (fresh rule) [] [] ty refl refl h in
     let r = k .reading in

@@ -20,7 +20,8 @@ use Rattle.transfers.specs.Driver.{withTransfer}
 use Rattle.record.specs.Calls.{Call, begin, step, cancel, openPipe, closePipe, pollPipe, interrupt, detect, Effect, call}
 use Rattle.record.specs.Asked.{Typed, AllTyped, Begun, armedBy}
 use Rattle.record.specs.Fates.{begunBy, begunFrom}
-use Rattle.record.specs.Told.{Live, noTransfer, Watch, marks, note}
+use Rattle.record.specs.Told.{Live, noTransfer, Watch, marks}
+use Rattle.record.specs.Shown.{note, shownFrom}
 use Rattle.record.specs.Premises.{CallGood}
 use Rattle.record.proofs.Heard.{nextLive, nextCount, nextWatch}
 use Rattle.record.proofs.Unbroken.{entriesFrom, UnbrokenFrom}
@@ -92,8 +93,8 @@ none-due n w f (Busy r) rest i = absurd i
 -- The record of a list is what is due and then the entries of the transfers begun.
 record-is : (cs : List Call) (l : Live) (n : ℕ) (w : Watch) (f : File) (d : Driver) (rest : List Entry) → AllTyped cs → Inv l n w f (d .transfer) rest
     → UnbrokenFrom l n w f d cs
-    → entriesFrom f d cs ≡ rest ++ armedByAll (begunFrom d cs)
-unfolding entriesFrom begunFrom UnbrokenFrom
+    → entriesFrom f d cs ≡ rest ++ armedByAll (begunFrom (shownFrom d cs))
+unfolding entriesFrom begunFrom UnbrokenFrom shownFrom
 record-is [] l n w f d rest ty i h = sym (append-nil rest ∙ none-due n w f (d .transfer) rest (subst (λ (k : Live). Inv k n w f (d .transfer) rest) h i))
 record-is (c ∷ cs) l n w f d rest ty i h =
     let o = call d c in
@@ -101,17 +102,17 @@ record-is (c ∷ cs) l n w f d rest ty i h =
     let k = call-kept c d l n w f rest (ty .0) i (h .1) in
     let now = wire f (o .writes) (o .memory) in
     let begun = armedByAll (begunBy t) in
-    let later = armedByAll (begunFrom (o .next) cs) in
+    let later = armedByAll (begunFrom (shownFrom (o .next) cs)) in
     let sp : rest ++ begun ≡ now ++ k .rest′ = subst (λ (v : Bool). Splits v (rest ++ begun) now (k .rest′)) (h .0) (k .split) in
     let ih = record-is cs (nextLive t l) (nextCount t n) (nextWatch t w (events f (o .writes))) (performs f (o .writes)) (o .next) (k .rest′) (ty .1) (k .inv) (h .3) in
     ap (λ (r : List Entry). now ++ r) ih
     ∙ sym (append-assoc now (k .rest′) later)
     ∙ ap (λ (r : List Entry). r ++ later) (sym sp)
     ∙ append-assoc rest begun later
-    ∙ ap (λ (r : List Entry). rest ++ r) (sym (armed-append (begunBy t) (begunFrom (o .next) cs)))
+    ∙ ap (λ (r : List Entry). rest ++ r) (sym (armed-append (begunBy t) (begunFrom (shownFrom (o .next) cs))))
 
 -- ---- from a driver with nothing under way, over any registers
 
 pub record-of-begun : (cs : List Call) (n : ℕ) (w : Watch) (f : File) (d : Driver) → d .transfer ≡ Idle → AllTyped cs → UnbrokenFrom noTransfer n w f d cs
-    → entriesFrom f d cs ≡ armedByAll (begunFrom d cs)
+    → entriesFrom f d cs ≡ armedByAll (begunFrom (shownFrom d cs))
 record-of-begun cs n w f d e ty h = record-is cs noTransfer n w f d [] ty (subst (λ (t : Transfer). Inv noTransfer n w f t []) (sym e) refl) h

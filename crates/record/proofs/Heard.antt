@@ -5,8 +5,7 @@ use mathlib.Core.List.{List}
 use Prim.Native.Nat.{ℕ, suc, _+_}
 use lib.ListN.{length}
 use Rattle.record.specs.Wire.{File, performs, Event, events, wire}
-use Rattle.record.specs.Calls.{Call, Effect}
-use Rattle.record.specs.Told.{Live, noTransfer, live, Watch, notArmed, seen, marks, Note, began, stepped, finished, broke, nothing, note, Told, told, heard, hears}
+use Rattle.record.specs.Told.{Live, noTransfer, live, Watch, notArmed, seen, marks, Note, began, stepped, finished, broke, nothing, Shown, Told, told, heard, hears}
 
 -- The transfer under way.
 abbrev pub nextLive : Note → Live → Live
@@ -49,9 +48,9 @@ breaks broke = true
 breaks nothing = false
 
 -- All of them, after a call.
-abbrev pub after : Told → (c : Call) → Effect c → Told
-after t c o =
-    let k = note c (o .answer) in
+abbrev pub after : Told → Shown → Told
+after t o =
+    let k = o .note in
     told (performs (t .file) (o .writes)) (nextLive k (t .live)) (nextCount k (t .stages)) (since k (t .armings) (length (wire (t .file) (o .writes) (o .memory)))) (nextWatch k (t .watch) (events (t .file) (o .writes)))
 
 heard-is : (k : Note) (t : Told) (f : File) (j : ℕ) (es : List Event) → told f (nextLive k (t .live)) (nextCount k (t .stages)) (since k (t .armings) j) (nextWatch k (t .watch) es) ≡ heard k t f j es
@@ -62,5 +61,5 @@ heard-is (finished y now) t f j es = refl
 heard-is broke t f j es = refl
 heard-is nothing t f j es = refl
 
-pub hears-is : (t : Told) (c : Call) (o : Effect c) → after t c o ≡ hears t c o
-hears-is t c o = heard-is (note c (o .answer)) t (performs (t .file) (o .writes)) (length (wire (t .file) (o .writes) (o .memory))) (events (t .file) (o .writes))
+pub hears-is : (t : Told) (o : Shown) → after t o ≡ hears t o
+hears-is t o = heard-is (o .note) t (performs (t .file) (o .writes)) (length (wire (t .file) (o .writes) (o .memory))) (events (t .file) (o .writes))

@@ -25,7 +25,8 @@ use Rattle.record.specs.Grammar.{Entry}
 use Rattle.record.specs.Wire.{File, performs, events, wire}
 use Rattle.record.specs.Calls.{Begin, controlBegin, bulkBegin, Call, Effect}
 use Rattle.record.specs.Asked.{sentOf, packetsOf, outEntry}
-use Rattle.record.specs.Told.{Live, noTransfer, live, Watch, notArmed, inSlot, taken, seen, note}
+use Rattle.record.specs.Told.{Live, noTransfer, live, Watch, notArmed, inSlot, taken, seen}
+use Rattle.record.specs.Shown.{note}
 use Rattle.record.specs.Fates.{begunBy}
 use Rattle.record.proofs.Heard.{nextLive, nextCount, nextWatch, breaks}
 use Rattle.record.proofs.Stages.{address-field, endpoint-field}

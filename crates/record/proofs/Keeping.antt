@@ -12,17 +12,16 @@ use borrow.Author.Tests.{leb-true, ne-eqb}
 use Rattle.transfers.specs.declared.answers.Armed.{Armed}
 use Rattle.transfers.specs.declared.answers.OptionEntries.{OptionEntries}
 use Rattle.transfers.specs.declared.answers.OptionEntries.the-variants.{Some as someCount, None as noCount}
-use Rattle.transfers.specs.declared.driver.DeskRule.{DeskRule}
 use Rattle.transfers.specs.declared.driver.Driver.{Driver}
 use Rattle.transfers.specs.Answers.{nothingArmed}
-use Rattle.transfers.specs.Driver.{fresh}
 use Rattle.record.specs.Segments.{Element, entry}
 use Rattle.record.specs.Calls.{Call, begin, step, cancel, openPipe, closePipe, pollPipe, interrupt, detect, call}
 use Rattle.record.specs.Armed.{entriesArmed}
+use Rattle.record.specs.Shown.{writerAfter, shown, shownFrom}
 use Rattle.record.specs.Record.{counted, answeredFrom}
 use Rattle.record.specs.Bytes.{headBytes, encodeAll, encodeElements, failedBytes, recordOf}
 use Rattle.record.specs.Writer.{armedInRange, appended, countBytes, toldBytes, appendIf, appendOf}
-use Rattle.record.specs.Kept.{Kept, kept, refused, keptBy, appends, appendsAfter, keptFrom, keptAll}
+use Rattle.record.specs.Kept.{Kept, kept, refused, keptBy, appends, appendsBy, keptFrom, keptAll}
 use Rattle.record.proofs.Encoding.{elements-append, elements-entries}
 
 -- Bytes stored from a place on: all up to their end, and all after it.
@@ -111,7 +110,7 @@ first m l = go (eqb (length m) 4096) (armedInRange nothingArmed) (leb 5 (length 
 
 -- One call of the driver: what it answers that it armed, and its count, are appended.
 one : (l₀ m₀ : List ℕ) (k : Kept) (es : List Element) (d : Driver) (c : Call) → Fine l₀ k es
-    → Fine l₀ (appendsAfter m₀ c (call d c) k) (es ++ told (call d c .memory) (call d c .armed) (call d c .failed))
+    → Fine l₀ (appendsBy (writerAfter c) m₀ (shown c (call d c)) k) (es ++ told (call d c .memory) (call d c .armed) (call d c .failed))
 unfolding call
 one l₀ m₀ k es d (begin x buf m log) h = let o = call d (begin x buf m log) in appended-fine l₀ (o .armed) (o .failed) (o .memory) k es h
 one l₀ m₀ k es d (step b y buf m log) h = let o = call d (step b y buf m log) in appended-fine l₀ (o .armed) (o .failed) (o .memory) k es h
@@ -122,18 +121,18 @@ one l₀ m₀ k es d (pollPipe n y m log) h = subst (Fine l₀ k) (sym (append-n
 one l₀ m₀ k es d (interrupt ints status log) h = subst (Fine l₀ k) (sym (append-nil es)) h
 one l₀ m₀ k es d (detect sie log) h = subst (Fine l₀ k) (sym (append-nil es)) h
 
-along : (l₀ : List ℕ) (ms : ℕ → List ℕ) (cs : List Call) (k : Kept) (es : List Element) (d : Driver) → Fine l₀ k es → Fine l₀ (keptFrom ms k d cs) (es ++ answeredFrom d cs)
-unfolding keptFrom answeredFrom
+along : (l₀ : List ℕ) (ms : ℕ → List ℕ) (cs : List Call) (k : Kept) (es : List Element) (d : Driver) → Fine l₀ k es → Fine l₀ (keptFrom ms k (shownFrom d cs)) (es ++ answeredFrom (shownFrom d cs))
+unfolding keptFrom answeredFrom shownFrom
 along l₀ ms [] k es d h = subst (Fine l₀ k) (sym (append-nil es)) h
 along l₀ ms (c ∷ cs) k es d h =
     let o = call d c in
     let a = map entry (entriesArmed (o .memory) (o .armed)) in
     let b = counted (o .failed) in
-    let r = answeredFrom (o .next) cs in
+    let r = answeredFrom (shownFrom (o .next) cs) in
     let later : ℕ → List ℕ = λ i. ms (suc i) in
-    subst (Fine l₀ (keptFrom later (appendsAfter (ms 0) c o k) (o .next) cs)) (append-assoc es (a ++ b) r ∙ ap (λ (v : List Element). es ++ v) (append-assoc a b r))
-    (along l₀ later cs (appendsAfter (ms 0) c o k) (es ++ (a ++ b)) (o .next) (one l₀ (ms 0) k es d c h))
+    subst (Fine l₀ (keptFrom later (appendsBy (writerAfter c) (ms 0) (shown c o) k) (shownFrom (o .next) cs))) (append-assoc es (a ++ b) r ∙ ap (λ (v : List Element). es ++ v) (append-assoc a b r))
+    (along l₀ later cs (appendsBy (writerAfter c) (ms 0) (shown c o) k) (es ++ (a ++ b)) (o .next) (one l₀ (ms 0) k es d c h))
 
 -- The writer's calls over a list of driver calls.
-pub all-fine : (rule : DeskRule) (l : List ℕ) (ms : ℕ → List ℕ) (cs : List Call) → Fine l (keptAll rule l ms cs) (answeredFrom (fresh rule) cs)
-all-fine rule l ms cs = along l (λ i. ms (suc i)) cs (appends nothingArmed noCount (ms 0) (kept l 0)) [] (fresh rule) (first (ms 0) l)
+pub all-fine : (d : Driver) (l : List ℕ) (ms : ℕ → List ℕ) (cs : List Call) → Fine l (keptAll l ms (shownFrom d cs)) (answeredFrom (shownFrom d cs))
+all-fine d l ms cs = along l (λ i. ms (suc i)) cs (appends nothingArmed noCount (ms 0) (kept l 0)) [] d (first (ms 0) l)

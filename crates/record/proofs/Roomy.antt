@@ -24,10 +24,11 @@ use Rattle.record.specs.Calls.{Begin, controlBegin, bulkBegin, Call, beg
 use Rattle.record.specs.Armed.{entriesArmed}
 use Rattle.record.specs.Segments.{Element, entry}
 use Rattle.record.specs.Asked.{AllTyped}
+use Rattle.record.specs.Shown.{writerAfter, shown, shownFrom}
 use Rattle.record.specs.Record.{counted, answeredFrom}
 use Rattle.record.specs.Bytes.{headBytes, encodeAll, encodeElements, recordOf}
 use Rattle.record.specs.Writer.{armedInRange, appended, toldBytes, appendOf}
-use Rattle.record.specs.Kept.{Kept, kept, refused, appends, appendsAfter, keptFrom, keptAll, Lent, AllLent}
+use Rattle.record.specs.Kept.{Kept, kept, refused, appends, appendsBy, keptFrom, keptAll, Lent, AllLent}
 use Rattle.record.proofs.Encoding.{elements-append}
 use Rattle.record.proofs.Keeping.{told, no-head}
 use Rattle.record.proofs.Answered.{AllRanged, all-ranged}
@@ -67,7 +68,7 @@ none-more k r h = subst (λ (n : ℕ). Room k n) (zero-add r) h
 
 -- One call of the driver.
 one-room : (m₀ : List ℕ) → length m₀ ≡ 4096 → (c : Call) (d : Driver) (k : Kept) (r : ℕ) → Lent c → armedInRange (call d c .armed) ≡ true
-    → Room k (length (encodeElements (told (call d c .memory) (call d c .armed) (call d c .failed))) + r) → Room (appendsAfter m₀ c (call d c) k) r
+    → Room k (length (encodeElements (told (call d c .memory) (call d c .armed) (call d c .failed))) + r) → Room (appendsBy (writerAfter c) m₀ (shown c (call d c)) k) r
 unfolding call encodeElements
 one-room m₀ hm (begin x buf m log) d k r lent a h = let o = call d (begin x buf m log) in
     append-room (o .armed) (o .failed) (o .memory) k r (slots-length m (o .memory) (begin-slots (d .transfer) x buf m log) lent) a h
@@ -81,17 +82,17 @@ one-room m₀ hm (interrupt ints status log) d k r lent a h = none-more k r h
 one-room m₀ hm (detect sie log) d k r lent a h = none-more k r h
 
 along : (ms : ℕ → List ℕ) → ((i : ℕ) → length (ms i) ≡ 4096) → (cs : List Call) (d : Driver) (k : Kept) → AllLent cs → AllRanged d cs
-    → Room k (length (encodeElements (answeredFrom d cs))) → Room (keptFrom ms k d cs) 0
-unfolding keptFrom answeredFrom encodeElements
+    → Room k (length (encodeElements (answeredFrom (shownFrom d cs)))) → Room (keptFrom ms k (shownFrom d cs)) 0
+unfolding keptFrom answeredFrom encodeElements shownFrom
 along ms hm [] d k lent a h = h
 along ms hm (c ∷ cs) d k lent a h =
     let o = call d c in
     let x = map entry (entriesArmed (o .memory) (o .armed)) in
     let y = counted (o .failed) in
-    let rest = answeredFrom (o .next) cs in
+    let rest = answeredFrom (shownFrom (o .next) cs) in
     let e : length (encodeElements (x ++ (y ++ rest))) ≡ length (encodeElements (x ++ y)) + length (encodeElements rest) =
     ap (λ (l : List Element). length (encodeElements l)) (sym (append-assoc x y rest)) ∙ ap length (elements-append (x ++ y) rest) ∙ length-append (encodeElements (x ++ y)) (encodeElements rest) in
-    along (λ i. ms (suc i)) (λ i. hm (suc i)) cs (o .next) (appendsAfter (ms 0) c o k) (lent .1) (a .1)
+    along (λ i. ms (suc i)) (λ i. hm (suc i)) cs (o .next) (appendsBy (writerAfter c) (ms 0) (shown c o) k) (lent .1) (a .1)
     (one-room (ms 0) (hm 0) c d k (length (encodeElements rest)) (lent .0) (a .0) (subst (λ (r : ℕ). Room k r) e h))
 
 -- The first call of the writer.
@@ -99,11 +100,11 @@ head-room : (m l : List ℕ) (r : ℕ) → length m ≡ 4096 → 5 + r ≤ lengt
 unfolding toldBytes appended encodeAll
 head-room m l r hm h = subst (λ (k : Kept). Room k r) (sym (fits nothingArmed noCount m l 0 hm none-ranged (omega (arith, h)))) (omega arith, omega (arith, h, length-sets l 0 headBytes))
 
-pub room : (rule : DeskRule) (cs : List Call) → AllTyped cs → AllLent cs → (l : List ℕ) (ms : ℕ → List ℕ) → ((i : ℕ) → length (ms i) ≡ 4096) → length (recordOf (answeredFrom (fresh rule) cs)) ≤ length l
-    → keptAll rule l ms cs ≡ refused → ⊥
+pub room : (rule : DeskRule) (cs : List Call) → AllTyped cs → AllLent cs → (l : List ℕ) (ms : ℕ → List ℕ) → ((i : ℕ) → length (ms i) ≡ 4096) → length (recordOf (answeredFrom (shownFrom (fresh rule) cs))) ≤ length l
+    → keptAll l ms (shownFrom (fresh rule) cs) ≡ refused → ⊥
 unfolding recordOf
 room rule cs ty lent l ms hm h q =
-    let e = length-append headBytes (encodeElements (answeredFrom (fresh rule) cs)) in
+    let e = length-append headBytes (encodeElements (answeredFrom (shownFrom (fresh rule) cs))) in
     subst (λ (k : Kept). Room k 0) q
     (along (λ i. ms (suc i)) (λ i. hm (suc i)) cs (fresh rule) (appends nothingArmed noCount (ms 0) (kept l 0)) lent (all-ranged rule cs ty)
-    (head-room (ms 0) l (length (encodeElements (answeredFrom (fresh rule) cs))) (hm 0) (omega (arith, e, h))))
+    (head-room (ms 0) l (length (encodeElements (answeredFrom (shownFrom (fresh rule) cs)))) (hm 0) (omega (arith, e, h))))

@@ -57,7 +57,8 @@ use Rattle.cutting.specs.Left.{OutLeft, stop, go}
 use Rattle.cutting.proofs.Cutting.{out-cut}
 use Rattle.transfers.specs.Arming.{mayArm, outArmed, outArmIf, outArm, outArmTwo}
 use Rattle.record.specs.Asked.{Typed, AllTyped, TypedBegin}
-use Rattle.record.specs.Told.{Live, noTransfer, live, finds, ends, noteStep, note, Told, untold}
+use Rattle.record.specs.Told.{Live, noTransfer, live, finds, Told, untold}
+use Rattle.record.specs.Shown.{ends, noteStep, note, shown, shownFrom}
 use Rattle.record.specs.Premises.{sendsNext}
 use Rattle.record.specs.Stages.{anyOut, turns, nextSends, StagesFrom}
 use Rattle.record.proofs.Heard.{nextLive, nextCount, after, hears-is}
@@ -421,19 +422,19 @@ call-held (detect sie log) d l n s ty h = same-held l n s (d .transfer) h
 
 -- ---- every list
 
-stages-from : (cs : List Call) (b : Bool) (t : Told) (d : Driver) → AllTyped cs → Known (t .file) (d .transfer) → Held (t .live) (t .stages) b (d .transfer) → StagesFrom b t d cs
-unfolding StagesFrom
+stages-from : (cs : List Call) (b : Bool) (t : Told) (d : Driver) → AllTyped cs → Known (t .file) (d .transfer) → Held (t .live) (t .stages) b (d .transfer) → StagesFrom b t (shownFrom d cs)
+unfolding StagesFrom shownFrom
 stages-from [] b t d ty i h = held-sends (t .live) (t .stages) b (d .transfer) h
 stages-from (c ∷ cs) b t d ty i h =
     let o = call d c in
-    let u = after t c o in
+    let u = after t (shown c o) in
     let k = note c (o .answer) in
     let b′ = nextSends k b (events (t .file) (o .writes)) in (
       held-sends (t .live) (t .stages) b (d .transfer) h,
-      subst (λ (v : Told). StagesFrom b′ v (o .next) cs) (hears-is t c o)
+      subst (λ (v : Told). StagesFrom b′ v (shownFrom (o .next) cs)) (hears-is t (shown c o))
           (stages-from cs b′ u (o .next) (ty .1) (tells-call c d (t .file) (ty .0) i .known)
           (subst (λ (v : Bool). Held (u .live) (u .stages) (cond (turns k) v (b || v)) (o .next .transfer)) (sym (starts-said c d (t .file) (ty .0) i)) (call-held c d (t .live) (t .stages) b (ty .0) h))),
     )
 
-pub stages : (rule : DeskRule) (f : File) (cs : List Call) → AllTyped cs → StagesFrom false (untold f) (fresh rule) cs
+pub stages : (rule : DeskRule) (f : File) (cs : List Call) → AllTyped cs → StagesFrom false (untold f) (shownFrom (fresh rule) cs)
 stages rule f cs ty = stages-from cs false (untold f) (fresh rule) ty tt refl

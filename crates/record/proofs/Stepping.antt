@@ -56,7 +56,8 @@ use Rattle.transfers.proofs.OpenPipes.{lent-sizes}
 use Rattle.record.specs.Grammar.{Entry}
 use Rattle.record.specs.Wire.{File, performs, Event, events, wire}
 use Rattle.record.specs.Calls.{Begin, controlBegin, bulkBegin, step, steps}
-use Rattle.record.specs.Told.{Live, noTransfer, live, Watch, notArmed, taken, seen, marks, finds, ends, noteStep}
+use Rattle.record.specs.Told.{Live, noTransfer, live, Watch, notArmed, taken, seen, marks, finds}
+use Rattle.record.specs.Shown.{ends, noteStep}
 use Rattle.record.specs.Premises.{sendsNext, LentIts, LentIf, TakenIf, CallGood}
 use Rattle.record.proofs.Chips.{isComplete, finds-is}
 use Rattle.record.proofs.Logs.{Silent, silent-enable}

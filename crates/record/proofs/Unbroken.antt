@@ -7,7 +7,8 @@ use Rattle.transfers.specs.declared.driver.Driver.{Driver}
 use Rattle.record.specs.Grammar.{Entry}
 use Rattle.record.specs.Wire.{File, performs, events, wire}
 use Rattle.record.specs.Calls.{Call, call}
-use Rattle.record.specs.Told.{Live, noTransfer, Watch, note}
+use Rattle.record.specs.Told.{Live, noTransfer, Watch}
+use Rattle.record.specs.Shown.{note}
 use Rattle.record.specs.Premises.{CallGood, CallLent, Unrefused}
 use Rattle.record.proofs.Heard.{nextLive, nextCount, nextWatch, breaks}
 

@@ -27,6 +27,7 @@ use Rattle.record.specs.Segments.{Element, entry, failedEntry, elements}
 use Rattle.record.specs.Wire.{File, wire}
 use Rattle.record.specs.Calls.{Begin, controlBegin, bulkBegin, Call, begin, step, cancel, call}
 use Rattle.record.specs.Told.{untold}
+use Rattle.record.specs.Shown.{shownFrom}
 use Rattle.record.specs.Record.{recordFrom}
 use Rattle.record.specs.Fates.{begunFrom, done, broken, fatesFrom}
 use Rattle.record.specs.Asked.{itemOf, listed}
@@ -133,11 +134,11 @@ pub record TwoTransfers : Type 0 where
       ∷ wr 0 0 12
       ∷ wr 0x5011_004C 1 1
       ∷ []
-  pub record-is : recordFrom (untold noBits) (fresh One) twoCalls ≡ twoElements
-  pub begun : begunFrom (fresh One) twoCalls ≡ record { fields = configure; buffer = [] } ∷ record { fields = three; buffer = threeBytes } ∷ []
-  pub fates : fatesFrom (untold noBits) (fresh One) twoCalls ≡ map done (begunFrom (fresh One) twoCalls)
-  pub transfers : map itemOf (listed (begunFrom (fresh One) twoCalls)) ≡ controlItem 5 (four 0 9 1 0) (four 0 0 0 0) [] ∷ bulkItem 5 2 false threeBytes ∷ []
-  pub premises : PremisesFrom (untold noBits) (fresh One) twoCalls
+  pub record-is : recordFrom (untold noBits) (shownFrom (fresh One) twoCalls) ≡ twoElements
+  pub begun : begunFrom (shownFrom (fresh One) twoCalls) ≡ record { fields = configure; buffer = [] } ∷ record { fields = three; buffer = threeBytes } ∷ []
+  pub fates : fatesFrom (untold noBits) (shownFrom (fresh One) twoCalls) ≡ map done (begunFrom (shownFrom (fresh One) twoCalls))
+  pub transfers : map itemOf (listed (begunFrom (shownFrom (fresh One) twoCalls))) ≡ controlItem 5 (four 0 9 1 0) (four 0 0 0 0) [] ∷ bulkItem 5 2 false threeBytes ∷ []
+  pub premises : PremisesFrom (untold noBits) (shownFrom (fresh One) twoCalls)
   pub bytes : recordOf twoElements ≡ twoBytes 2
   pub reading : elements [] (controlPart 5 (four 0 9 1 0) (four 0 0 0 0) noGroup ∷ bulkPart 5 2 false [] threeBytes ∷ []) ≡ twoElements
   pub count : checkReply (checkOf (twoBytes 2)) ≡ result 2
@@ -147,7 +148,7 @@ pub record TwoTransfers : Type 0 where
 
 -- They are so.
 pub two-transfers : TwoTransfers
-unfolding recordFrom begunFrom fatesFrom PremisesFrom wire call beginControlOf beginBulkOutOf stepOf cancelOf served sound acts setupStep inStep inComplete outStep outComplete classify startIn startOut inArm inArmTwo outArm outArmTwo inNext outNext inRetireOne outRetireOne headWrites armWrites enableWrites goWrites recordOf encodeElements checkOf readFrom turnOf headRight versionAt look lookSetup lookOut lookFailed fieldsFit itemsFrom itemAt sentAt groupAt groupFrom groupOf failedAt
+unfolding shownFrom recordFrom begunFrom fatesFrom PremisesFrom wire call beginControlOf beginBulkOutOf stepOf cancelOf served sound acts setupStep inStep inComplete outStep outComplete classify startIn startOut inArm inArmTwo outArm outArmTwo inNext outNext inRetireOne outRetireOne headWrites armWrites enableWrites goWrites recordOf encodeElements checkOf readFrom turnOf headRight versionAt look lookSetup lookOut lookFailed fieldsFit itemsFrom itemAt sentAt groupAt groupFrom groupOf failedAt
 two-transfers = record {
   control-log = refl;
   bulk-log = refl;
@@ -214,14 +215,14 @@ fourBytes =
 -- The record, what became of the four, the premises (a stall and a cancel break none), the bytes, and the reader: two transfers ended with a count, and the cursor
 -- passes over the first and the third.
 pub record FourTransfers : Type 0 where
-  pub record-is : recordFrom (untold noBits) (fresh One) fourCalls ≡ fourElements
-  pub fates : fatesFrom (untold noBits) (fresh One) fourCalls
+  pub record-is : recordFrom (untold noBits) (shownFrom (fresh One) fourCalls) ≡ fourElements
+  pub fates : fatesFrom (untold noBits) (shownFrom (fresh One) fourCalls)
       ≡ broken (record { fields = five; buffer = fiveBytes })
       ∷ done (record { fields = configure; buffer = [] })
       ∷ broken (record { fields = three; buffer = threeBytes })
       ∷ done (record { fields = three; buffer = threeBytes })
       ∷ []
-  pub premises : PremisesFrom (untold noBits) (fresh One) fourCalls
+  pub premises : PremisesFrom (untold noBits) (shownFrom (fresh One) fourCalls)
   pub bytes : recordOf fourElements ≡ fourBytes
   pub count : checkReply (checkOf fourBytes) ≡ result 2
   pub items : itemsFrom 5 fourBytes firstAt
@@ -234,7 +235,7 @@ pub record FourTransfers : Type 0 where
 
 -- They are so.
 pub four-transfers : FourTransfers
-unfolding recordFrom fatesFrom PremisesFrom wire call beginControlOf beginBulkOutOf stepOf cancelOf served sound acts setupStep inStep inComplete outStep outComplete classify startIn startOut inArm inArmTwo outArm outArmTwo inNext outNext inRetireOne outRetireOne headWrites armWrites enableWrites goWrites recordOf encodeElements checkOf readFrom turnOf headRight versionAt look lookSetup lookOut lookFailed fieldsFit itemsFrom itemAt sentAt groupAt groupFrom groupOf failedAt
+unfolding shownFrom recordFrom fatesFrom PremisesFrom wire call beginControlOf beginBulkOutOf stepOf cancelOf served sound acts setupStep inStep inComplete outStep outComplete classify startIn startOut inArm inArmTwo outArm outArmTwo inNext outNext inRetireOne outRetireOne headWrites armWrites enableWrites goWrites recordOf encodeElements checkOf readFrom turnOf headRight versionAt look lookSetup lookOut lookFailed fieldsFit itemsFrom itemAt sentAt groupAt groupFrom groupOf failedAt
 four-transfers = record {
   record-is = refl;
   fates = refl;

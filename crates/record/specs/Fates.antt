@@ -2,12 +2,10 @@
 use mathlib.Core.Path.{_≡_}
 use mathlib.Core.List.{List, [], _∷_, _++_, map}
 use lib.ListN.{length}
-use Rattle.transfers.specs.declared.driver.Driver.{Driver}
 use Rattle.record.specs.Grammar.{Entry}
 use Rattle.record.specs.Segments.{Element, entry, failedEntry, Segment}
-use Rattle.record.specs.Calls.{Call, call}
 use Rattle.record.specs.Asked.{Begun, armedBy}
-use Rattle.record.specs.Told.{Live, noTransfer, live, Note, began, stepped, finished, broke, nothing, note, Told, hears}
+use Rattle.record.specs.Told.{Live, noTransfer, live, Note, began, stepped, finished, broke, nothing, Shown, Told, hears}
 
 -- "The transfers begun get an item from each begin that the table doesn't refuse".
 abbrev pub begunBy : Note → List Begun
@@ -18,9 +16,9 @@ begunBy broke = []
 begunBy nothing = []
 
 -- The transfers begun, in order.
-unfoldable pub begunFrom : Driver → List Call → List Begun
-begunFrom d [] = []
-begunFrom d (c ∷ cs) = let o = call d c in begunBy (note c (o .answer)) ++ begunFrom (o .next) cs
+unfoldable pub begunFrom : List Shown → List Begun
+begunFrom [] = []
+begunFrom (o ∷ os) = begunBy (o .note) ++ begunFrom os
 
 -- A transfer "ended with a count", or it failed: it "ends by 1 to 7 or 9 or is cancelled".
 pub data Fate : Type 0 where
@@ -41,9 +39,9 @@ fate broke gs = map broken gs
 fate nothing gs = []
 
 -- The fates, in order.
-unfoldable pub fatesFrom : Told → Driver → List Call → List Fate
-fatesFrom t d [] = []
-fatesFrom t d (c ∷ cs) = let o = call d c in fate (note c (o .answer)) (underWay (t .live)) ++ fatesFrom (hears t c o) (o .next) cs
+unfoldable pub fatesFrom : Told → List Shown → List Fate
+fatesFrom t [] = []
+fatesFrom t (o ∷ os) = fate (o .note) (underWay (t .live)) ++ fatesFrom (hears t o) os
 
 -- Whose they are.
 abbrev pub allOf : List Fate → List Begun

@@ -6,12 +6,10 @@ use lib.ListN.{length}
 use Rattle.transfers.specs.declared.answers.Armed.{Armed}
 use Rattle.transfers.specs.declared.answers.OptionEntries.{OptionEntries}
 use Rattle.transfers.specs.declared.answers.OptionEntries.the-variants.{None as noCount}
-use Rattle.transfers.specs.declared.driver.DeskRule.{DeskRule}
-use Rattle.transfers.specs.declared.driver.Driver.{Driver}
 use Rattle.transfers.specs.Answers.{nothingArmed}
-use Rattle.transfers.specs.Driver.{fresh}
 use Rattle.transfers.specs.Reply.{Reply, result, number}
-use Rattle.record.specs.Calls.{Call, begin, step, cancel, openPipe, closePipe, pollPipe, interrupt, detect, Effect, call}
+use Rattle.record.specs.Calls.{Call, begin, step, cancel, openPipe, closePipe, pollPipe, interrupt, detect}
+use Rattle.record.specs.Told.{Writer, itsMemory, anyMemory, notCalled, Shown}
 use Rattle.record.specs.Writer.{appendOf}
 
 -- The record lent and how many of its bytes are used, or the writer was refused somewhere.
@@ -29,25 +27,20 @@ abbrev pub appends : Armed → OptionEntries → List ℕ → Kept → Kept
 appends a x m refused = refused
 appends a x m (kept l n) = let o = appendOf a x m l n in keptBy (o .answer) (o .bytes)
 
--- "after every begin and step with the packet memory as that call left it", and after cancels, which are lent none, with any (m).
-abbrev pub appendsAfter : List ℕ → (c : Call) → Effect c → Kept → Kept
-appendsAfter m (begin x buf pm log) o k = appends (o .armed) (o .failed) (o .memory) k
-appendsAfter m (step b y buf pm log) o k = appends (o .armed) (o .failed) (o .memory) k
-appendsAfter m cancel o k = appends (o .armed) (o .failed) m k
-appendsAfter m (openPipe a x e p i log) o k = k
-appendsAfter m (closePipe n) o k = k
-appendsAfter m (pollPipe n y pm log) o k = k
-appendsAfter m (interrupt ints status log) o k = k
-appendsAfter m (detect sie log) o k = k
+-- After a call, "with the packet memory as that call left it" or with any (m).
+abbrev pub appendsBy : Writer → List ℕ → Shown → Kept → Kept
+appendsBy itsMemory m o k = appends (o .armed) (o .failed) (o .memory) k
+appendsBy anyMemory m o k = appends (o .armed) (o .failed) m k
+appendsBy notCalled m o k = k
 
--- Along a list of calls; `ms i` is what the writer is lent if call i is a cancel.
-unfoldable pub keptFrom : (ℕ → List ℕ) → Kept → Driver → List Call → Kept
-keptFrom ms k d [] = k
-keptFrom ms k d (c ∷ cs) = let o = call d c in keptFrom (λ i. ms (suc i)) (appendsAfter (ms 0) c o k) (o .next) cs
+-- Along what a list of calls shows; `ms i` is what the writer is lent after the call of entry i, if that is a cancel.
+unfoldable pub keptFrom : (ℕ → List ℕ) → Kept → List Shown → Kept
+keptFrom ms k [] = k
+keptFrom ms k (o ∷ os) = keptFrom (λ i. ms (suc i)) (appendsBy (o .writer) (ms 0) o k) os
 
 -- "Called first for nothing armed": a record l is lent, of which nothing is used, and the packet memory `ms 0`.
-abbrev pub keptAll : DeskRule → List ℕ → (ℕ → List ℕ) → List Call → Kept
-keptAll rule l ms cs = keptFrom (λ i. ms (suc i)) (appends nothingArmed noCount (ms 0) (kept l 0)) (fresh rule) cs
+abbrev pub keptAll : List ℕ → (ℕ → List ℕ) → List Shown → Kept
+keptAll l ms os = keptFrom (λ i. ms (suc i)) (appends nothingArmed noCount (ms 0) (kept l 0)) os
 
 -- The packet memory lent to a begin or step is 4,096 bytes (else the writer too refuses with 15).
 abbrev pub Lent : Call → Type 0

@@ -8,6 +8,7 @@ pub mod Asked
 pub mod Chip
 pub mod Wire
 pub mod Told
+pub mod Shown
 pub mod Fates
 pub mod Record
 pub mod Premises
@@ -17,6 +18,7 @@ pub mod Ties
 pub mod Armed
 pub mod Bytes
 pub mod Kept
+pub mod DriverCalls
 pub mod Verdict
 pub mod Items
 pub mod Refusal

@@ -6,11 +6,12 @@ use Prim.Native.Nat.{ℕ}
 use lib.Dec.{eqb}
 use Rattle.transfers.specs.declared.host_controller.DataPhase.the-variants.{In as phaseIn, Out as phaseOut, None as phaseNone}
 use Rattle.transfers.specs.declared.wire.Direction.the-variants.{In, Out}
+use Rattle.transfers.specs.declared.answers.BeginAnswer.the-variants.{Begun as accepted, Refused as refusedBegin}
 use Rattle.transfers.specs.declared.answers.StepAnswer.the-variants.{Waiting, Done, Refused}
 use Rattle.transfers.specs.declared.driver.Driver.{Driver}
 use Rattle.record.specs.Wire.{Event, events}
 use Rattle.record.specs.Calls.{controlBegin, bulkBegin, Call, begin, step, cancel, openPipe, closePipe, pollPipe, interrupt, detect, Answer, call}
-use Rattle.record.specs.Told.{Live, noTransfer, live, Watch, taken, seen, finds, Note, began, stepped, finished, broke, nothing, note, Told, hears}
+use Rattle.record.specs.Told.{Live, noTransfer, live, Watch, taken, seen, finds, Note, began, stepped, finished, broke, nothing, Shown, Told, hears}
 
 -- With n stages of the transfer reported complete, SETUP counted, the next is an OUT stage: "a bulk OUT, a control Out's data and a control In's status".
 abbrev pub sendsNext : Live → ℕ → Bool
@@ -50,11 +51,9 @@ CallGood broke l n w es = Unit {0}
 CallGood nothing l n w es = Unit {0}
 
 -- "each started transfer ended with a count", or, for runs with failures, "has ended or been cancelled": at the end none is under way.
-unfoldable pub PremisesFrom : Told → Driver → List Call → Type 0
-PremisesFrom t d [] = t .live ≡ noTransfer
-PremisesFrom t d (c ∷ cs) =
-    let o = call d c in
-    CallGood (note c (o .answer)) (t .live) (t .stages) (t .watch) (events (t .file) (o .writes)) × PremisesFrom (hears t c o) (o .next) cs
+unfoldable pub PremisesFrom : Told → List Shown → Type 0
+PremisesFrom t [] = t .live ≡ noTransfer
+PremisesFrom t (o ∷ os) = CallGood (o .note) (t .live) (t .stages) (t .watch) (events (t .file) (o .writes)) × PremisesFrom (hears t o) os
 
 -- ---- what a list made for a record meets beyond these
 
@@ -67,13 +66,14 @@ CallLent broke l = Unit {0}
 CallLent nothing l = Unit {0}
 
 -- Along a list.
-unfoldable pub LentFrom : Told → Driver → List Call → Type 0
-LentFrom t d [] = Unit {0}
-LentFrom t d (c ∷ cs) = let o = call d c in CallLent (note c (o .answer)) (t .live) × LentFrom (hears t c o) (o .next) cs
+unfoldable pub LentFrom : Told → List Shown → Type 0
+LentFrom t [] = Unit {0}
+LentFrom t (o ∷ os) = CallLent (o .note) (t .live) × LentFrom (hears t o) os
 
--- A step "answers waiting, done with a count, or a refusal": one of the first two.
+-- A begin isn't refused; a step "answers waiting, done with a count, or a refusal": one of the first two.
 abbrev pub Unrefused : (c : Call) → Answer c → Type 0
-Unrefused (begin x buf m log) a = Unit {0}
+Unrefused (begin x buf m log) accepted = Unit {0}
+Unrefused (begin x buf m log) (refusedBegin why) = ⊥
 Unrefused (step b y buf m log) (Waiting again) = Unit {0}
 Unrefused (step b y buf m log) (Done k) = Unit {0}
 Unrefused (step b y buf m log) (Refused why) = ⊥
@@ -84,7 +84,7 @@ Unrefused (pollPipe n y m log) a = Unit {0}
 Unrefused (interrupt ints status log) a = Unit {0}
 Unrefused (detect sie log) a = Unit {0}
 
--- Along a list: each step acted, so "the sample of a step" that shows a packet taken is one of a step that acted.
+-- Along a list: each begin and step acted, so "the sample of a step" that shows a packet taken is one of a step that acted.
 unfoldable pub UnrefusedFrom : Driver → List Call → Type 0
 UnrefusedFrom d [] = Unit {0}
 UnrefusedFrom d (c ∷ cs) = let o = call d c in Unrefused c (o .answer) × UnrefusedFrom (o .next) cs

@@ -3,12 +3,10 @@ use mathlib.Core.List.{List, [], _∷_, _++_, map}
 use Prim.Native.Nat.{ℕ, _≤_}
 use Rattle.transfers.specs.declared.answers.OptionEntries.{OptionEntries}
 use Rattle.transfers.specs.declared.answers.OptionEntries.the-variants.{Some as someCount, None as noCount}
-use Rattle.transfers.specs.declared.driver.Driver.{Driver}
 use Rattle.record.specs.Segments.{Element, entry, failedEntry}
 use Rattle.record.specs.Wire.{wire}
 use Rattle.record.specs.Armed.{entriesArmed}
-use Rattle.record.specs.Calls.{Call, call}
-use Rattle.record.specs.Told.{note, Told, hears}
+use Rattle.record.specs.Told.{Shown, Told, hears}
 use Rattle.record.specs.Fates.{Fate, done, broken, underWay, fate}
 
 -- "written when a started transfer ends by 1 to 7 or 9 or is cancelled"
@@ -17,14 +15,12 @@ failure [] n = []
 failure (done g ∷ fs) n = []
 failure (broken g ∷ fs) n = failedEntry n ∷ []
 
--- "the SETUPs and OUT packets in order of arming", each call "getting the state the last one returned", and a count where a call ends the transfer under way
--- without one.
-unfoldable pub recordFrom : Told → Driver → List Call → List Element
-recordFrom t d [] = []
-recordFrom t d (c ∷ cs) =
-    let o = call d c in
-    let u = hears t c o in
-    map entry (wire (t .file) (o .writes) (o .memory)) ++ (failure (fate (note c (o .answer)) (underWay (t .live))) (u .armings) ++ recordFrom u (o .next) cs)
+-- "the SETUPs and OUT packets in order of arming", and a count where a call ends the transfer under way without one.
+unfoldable pub recordFrom : Told → List Shown → List Element
+recordFrom t [] = []
+recordFrom t (o ∷ os) =
+    let u = hears t o in
+    map entry (wire (t .file) (o .writes) (o .memory)) ++ (failure (fate (o .note) (underWay (t .live))) (u .armings) ++ recordFrom u os)
 
 -- "that step or cancel answers the count"
 abbrev pub counted : OptionEntries → List Element
@@ -32,9 +28,9 @@ counted noCount = []
 counted (someCount n) = failedEntry n ∷ []
 
 -- The record as the answers of a list of calls tell it.
-unfoldable pub answeredFrom : Driver → List Call → List Element
-answeredFrom d [] = []
-answeredFrom d (c ∷ cs) = let o = call d c in map entry (entriesArmed (o .memory) (o .armed)) ++ (counted (o .failed) ++ answeredFrom (o .next) cs)
+unfoldable pub answeredFrom : List Shown → List Element
+answeredFrom [] = []
+answeredFrom (o ∷ os) = map entry (entriesArmed (o .memory) (o .armed)) ++ (counted (o .failed) ++ answeredFrom os)
 
 -- Every count of a record is at most k.
 abbrev pub CountsTo : ℕ → List Element → Type 0

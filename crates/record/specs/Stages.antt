@@ -2,10 +2,8 @@
 use mathlib.Core.Path.{_≡_}
 use mathlib.Core.Bool.{Bool, true, false, cond, _||_}
 use mathlib.Core.List.{List, [], _∷_}
-use Rattle.transfers.specs.declared.driver.Driver.{Driver}
 use Rattle.record.specs.Wire.{Event, setupAt, outAt, events}
-use Rattle.record.specs.Calls.{Call, call}
-use Rattle.record.specs.Told.{Note, began, stepped, finished, broke, nothing, note, Told, hears}
+use Rattle.record.specs.Told.{Note, began, stepped, finished, broke, nothing, Shown, Told, hears}
 use Rattle.record.specs.Premises.{sendsNext}
 
 -- A call starts an OUT packet.
@@ -28,8 +26,6 @@ nextSends k b es = cond (turns k) (anyOut es) (b || anyOut es)
 
 -- "OUT stages are a bulk OUT, a control Out's data and a control In's status": along a list, the count of stages says that the one under way is such a stage
 -- exactly where an OUT packet was armed in it (b).
-unfoldable pub StagesFrom : Bool → Told → Driver → List Call → Type 0
-StagesFrom b t d [] = sendsNext (t .live) (t .stages) ≡ b
-StagesFrom b t d (c ∷ cs) =
-    let o = call d c in
-    (sendsNext (t .live) (t .stages) ≡ b) × StagesFrom (nextSends (note c (o .answer)) b (events (t .file) (o .writes))) (hears t c o) (o .next) cs
+unfoldable pub StagesFrom : Bool → Told → List Shown → Type 0
+StagesFrom b t [] = sendsNext (t .live) (t .stages) ≡ b
+StagesFrom b t (o ∷ os) = (sendsNext (t .live) (t .stages) ≡ b) × StagesFrom (nextSends (o .note) b (events (t .file) (o .writes))) (hears t o) os

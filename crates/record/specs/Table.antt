@@ -6,26 +6,26 @@ use Prim.Native.Nat.{ℕ}
 use lib.ListN.{length}
 use lib.Dec.{eqb, leb}
 use Rattle.transfers.specs.declared.driver.Driver.{Driver}
-use Rattle.transfers.specs.Reply.{Reply, result, beginReply}
-use Rattle.transfers.specs.Rows.{unless}
+use Rattle.transfers.specs.Reply.{Reply, beginReply}
+use Rattle.transfers.specs.Rows.{unless, controlFieldsRow, bulkFieldsRow}
 use Rattle.record.specs.Calls.{Begin, controlBegin, bulkBegin, Call, begin, step, cancel, openPipe, closePipe, pollPipe, interrupt, detect, Answer, call}
 use Rattle.record.specs.Told.{Live, noTransfer, live, Told, hears}
+use Rattle.record.specs.Shown.{shown}
 
 -- No transfer is under way.
 abbrev pub isFree : Live → Bool
 isFree noTransfer = true
 isFree (live x buf) = false
 
--- The fields that the row looks at: address, endpoint, packet size, buffer. A control has no endpoint and no limit of its buffer.
-abbrev pub fieldsRow : Begin → List ℕ → Reply (Unit {0})
-fieldsRow (controlBegin a x p s ph) buf = unless (leb a 127) 12 (unless (leb 1 p && leb p 64) 13 (result tt))
-fieldsRow (bulkBegin d a e p t b) buf =
-    unless (leb a 127) 12 (unless (leb 1 e && leb e 15) 11 (unless (leb 1 p && leb p 64) 13 (unless (leb (length buf) 65535) 14 (result tt))))
+-- The fields that the row looks at, with the buffer's length (n).
+abbrev pub fieldsRow : Begin → ℕ → Reply (Unit {0})
+fieldsRow (controlBegin a x p s ph) n = controlFieldsRow a p
+fieldsRow (bulkBegin d a e p t b) n = bulkFieldsRow a e p n
 
 -- "15 packet memory not 4,096 bytes, or log below 192 words"; "8 a transfer is under way; 12 address above 127; 11 bulk endpoint not 1 to 15; 13 packet size
 -- not 1 to 64; 14 bulk buffer above 65,535 bytes", in this order.
 abbrev pub rowOf : Live → Begin → List ℕ → List ℕ → List ℕ → Reply (Unit {0})
-rowOf l x buf m log = unless (eqb (length m) 4096 && leb 192 (length log)) 15 (unless (isFree l) 8 (fieldsRow x buf))
+rowOf l x buf m log = unless (eqb (length m) 4096 && leb 192 (length log)) 15 (unless (isFree l) 8 (fieldsRow x (length buf)))
 
 -- A begin answers what the row says.
 abbrev pub Row : Live → (c : Call) → Answer c → Type 0
@@ -41,4 +41,4 @@ Row l (detect sie log) a = Unit {0}
 -- Along a list of calls.
 unfoldable pub TableFrom : Told → Driver → List Call → Type 0
 TableFrom t d [] = Unit {0}
-TableFrom t d (c ∷ cs) = let o = call d c in Row (t .live) c (o .answer) × TableFrom (hears t c o) (o .next) cs
+TableFrom t d (c ∷ cs) = let o = call d c in Row (t .live) c (o .answer) × TableFrom (hears t (shown c o)) (o .next) cs

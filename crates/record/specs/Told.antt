@@ -1,20 +1,17 @@
--- What the calls, their answers, samples and logs tell, call by call: one record, and one function that steps it.
-use mathlib.Core.Bool.{Bool, true, false, not, cond, _&&_, _||_}
+-- What a list of calls shows, call by call, and what is told by it: one record, and one function that steps it.
+use mathlib.Core.Bool.{Bool, true, false, not, cond, _&&_}
 use mathlib.Core.List.{List, [], _∷_}
 use Prim.Native.Nat.{ℕ, suc, _+_}
 use lib.ListN.{length}
-use lib.Dec.{eqb, leb}
+use lib.Dec.{eqb}
 use lib.Bits.{bitAnd}
-use Rattle.transfers.specs.declared.refusal.Refusal.{Refusal}
-use Rattle.transfers.specs.declared.answers.BeginAnswer.the-variants.{Begun as accepted, Refused as refusedBegin}
-use Rattle.transfers.specs.declared.answers.CancelAnswer.the-variants.{Cancelled, Refused as refusedCancel}
-use Rattle.transfers.specs.declared.answers.StepAnswer.{StepAnswer}
-use Rattle.transfers.specs.declared.answers.StepAnswer.the-variants.{Waiting, Done, Refused}
+use Rattle.transfers.specs.declared.answers.Armed.{Armed}
+use Rattle.transfers.specs.declared.answers.OptionEntries.{OptionEntries}
 use Rattle.transfers.specs.declared.sample.Sample.{Sample}
-use Rattle.transfers.specs.Refusal.{numberOf}
+use Rattle.transfers.specs.Log.{Write}
 use Rattle.record.specs.Chip.{isSet, inHalf}
 use Rattle.record.specs.Wire.{File, performs, Event, setupAt, outAt, events, wire}
-use Rattle.record.specs.Calls.{Begin, Call, begin, step, cancel, openPipe, closePipe, pollPipe, interrupt, detect, Answer, Effect}
+use Rattle.record.specs.Calls.{Begin}
 
 -- The transfer under way: its begin's fields and buffer.
 pub data Live : Type 0 where
@@ -44,10 +41,6 @@ marks w (outAt s b false n ∷ es) = marks w es
 abbrev pub finds : Sample → Bool
 finds y = not (eqb (bitAnd (y .intr) 0x7F8) 0) && isSet 18 (y .status)
 
--- "1 to 7 and 9 end the transfer": of a step's refusals these; 15 and 16 leave it.
-abbrev pub ends : Refusal → Bool
-ends why = leb (numberOf why) 7 || eqb (numberOf why) 9
-
 -- What a call and its answer tell of the transfer under way: one began (its fields and buffer); a step left it under way and reported a stage complete or not,
 -- or ended it with a count (sample and buffer); it broke, that is, ended without a count; or nothing.
 pub data Note : Type 0 where
@@ -57,24 +50,19 @@ pub data Note : Type 0 where
   broke : Note
   nothing : Note
 
--- Of a step: "the step that finds TRANS_COMPLETE reports one complete".
-abbrev pub noteStep : StepAnswer → Sample → List ℕ → Note
-noteStep (Waiting again) y now = stepped (finds y) y now
-noteStep (Done k) y now = finished y now
-noteStep (Refused why) y now = cond (ends why) broke (stepped false y now)
+-- Whether the record's writer is called after a call, and with which packet memory: as the call left it, or any.
+pub data Writer : Type 0 where
+  itsMemory anyMemory notCalled : Writer
 
--- Of a call: a refused begin, a refused cancel and the calls on pipes tell nothing.
-abbrev pub note : (c : Call) → Answer c → Note
-note (begin x buf m log) accepted = began x buf
-note (begin x buf m log) (refusedBegin why) = nothing
-note (step b y buf m log) a = noteStep a y buf
-note cancel Cancelled = broke
-note cancel (refusedCancel why) = nothing
-note (openPipe a x e p i log) b = nothing
-note (closePipe n) a = nothing
-note (pollPipe n y m log) a = nothing
-note (interrupt ints status log) a = nothing
-note (detect sie log) a = nothing
+-- What a call shows: what it and its answer tell, the writes that its log holds in order, packet memory as it leaves it, what it answers that it armed, the count
+-- that it answers for a transfer that failed, and whether the writer is called after it.
+pub record Shown : Type 0 where
+  pub note : Note
+  pub writes : List Write
+  pub memory : List ℕ
+  pub armed : Armed
+  pub failed : OptionEntries
+  pub writer : Writer
 
 -- What was told so far: the registers, as the logs performed in order leave them; the transfer under way, how many of its stages were reported complete and how
 -- many entries it armed; the marked packet of its stage.
@@ -103,5 +91,5 @@ heard broke t f k es = told f noTransfer 0 (t .armings + k) notArmed
 heard nothing t f k es = told f (t .live) (t .stages) (t .armings + k) (marks (t .watch) es)
 
 -- After a call.
-abbrev pub hears : Told → (c : Call) → Effect c → Told
-hears t c o = heard (note c (o .answer)) t (performs (t .file) (o .writes)) (length (wire (t .file) (o .writes) (o .memory))) (events (t .file) (o .writes))
+abbrev pub hears : Told → Shown → Told
+hears t o = heard (o .note) t (performs (t .file) (o .writes)) (length (wire (t .file) (o .writes) (o .memory))) (events (t .file) (o .writes))

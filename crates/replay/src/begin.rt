@@ -1,51 +1,20 @@
 // The begins.
-use crate::effects::copy_of;
-use crate::effects::print_effects;
-use crate::print::answer;
-use crate::print::block_end;
-use crate::print::refused;
-use crate::state::State;
-use crate::state::write_record;
-use crate::within::within;
-use crate::within::within_words;
-use cutting::transfer_type::TransferType;
 use script::command::Bulk;
 use script::command::Control;
-use script::command::Setup;
-use script::text::put;
+use session::begin::extras_of;
+use session::begin::kind_of;
+use session::begin::packet_of;
+use session::begin::zero;
+use session::effects::copy_of;
+use session::print::answer;
+use session::print::refused;
+use session::state::State;
+use session::within::within;
+use session::within::within_words;
 use transfers::answers::BeginAnswer;
-use transfers::answers::OptionEntries;
 use transfers::control::Begun;
 use transfers::host_controller::DataPhase;
-use transfers::host_controller::TransferExtras;
 use transfers::refusal::number;
-use transfers::wire::SetupPacket;
-
-pub fn extras_of(preamble: bool) -> TransferExtras {
-    if preamble {
-        TransferExtras::WithPreamble
-    } else {
-        TransferExtras::Normal
-    }
-}
-
-fn packet_of(s: Setup) -> SetupPacket {
-    SetupPacket {
-        bmRequestType: s.kind,
-        bRequest: s.request,
-        wValue: s.value,
-        wIndex: s.index,
-        wLength: s.length,
-    }
-}
-
-fn kind_of(variable: bool) -> TransferType {
-    if variable {
-        TransferType::VariableSize
-    } else {
-        TransferType::FixedSize
-    }
-}
 
 fn print_begun(out: &mut [u8], at: usize, a: BeginAnswer) -> usize {
     match a {
@@ -54,18 +23,11 @@ fn print_begun(out: &mut [u8], at: usize, a: BeginAnswer) -> usize {
     }
 }
 
-// A begin that is not refused leaves its buffer to the steps.
-fn keep(mut s: State, b: Begun, count: usize, bulk: bool, buf: &mut [u8], bytes: &[u8]) -> State {
+fn keep(s: State, b: Begun, count: usize, bulk: bool, buf: &mut [u8], bytes: &[u8]) -> State {
     let a = b.answer;
     match a {
         BeginAnswer::Refused(_) => s,
-        BeginAnswer::Begun => {
-            let n = within(count, bytes);
-            put(buf, 0, &bytes[..n]);
-            s.length = n;
-            s.bulk = bulk;
-            s
-        }
+        BeginAnswer::Begun => session::begin::keep(s, count, bulk, buf, bytes),
     }
 }
 
@@ -82,10 +44,8 @@ fn finish(
     let a = b.answer;
     let armed = b.armed;
     s.driver = next;
-    let at = print_begun(out, s.at, a);
-    let at = print_effects(out, at, log, b.writes, armed, old, pm);
-    s.at = block_end(out, at);
-    write_record(s, armed, OptionEntries::None, pm, record)
+    s.at = print_begun(out, s.at, a);
+    session::begin::finish(s, armed, b.writes, old, pm, log, record, out)
 }
 
 // The driver's begins, on what is lent.
@@ -165,7 +125,7 @@ pub fn control(
     finish(s, b, &old, pm, &log, record, out)
 }
 
-pub fn bulk_in(
+fn bulk_in(
     s: State,
     c: Bulk,
     pm: &[u8],
@@ -195,4 +155,30 @@ pub fn bulk_out(
     let b = begin_bulk_out(s, c, bytes, pm, &mut log);
     let s = keep(s, b, c.count, true, buf, bytes);
     finish(s, b, &old, pm, &log, record, out)
+}
+
+pub fn control_in(
+    s: State,
+    c: Control,
+    pm: &[u8],
+    buf: &mut [u8],
+    bytes: &mut [u8; 131072],
+    record: &mut [u8],
+    out: &mut [u8],
+) -> State {
+    zero(bytes);
+    control(s, c, DataPhase::In, pm, buf, bytes, record, out)
+}
+
+pub fn bulk_in_zero(
+    s: State,
+    c: Bulk,
+    pm: &[u8],
+    buf: &mut [u8],
+    bytes: &mut [u8; 131072],
+    record: &mut [u8],
+    out: &mut [u8],
+) -> State {
+    zero(bytes);
+    bulk_in(s, c, pm, buf, bytes, record, out)
 }

@@ -1,21 +1,12 @@
 // Plays a replay script on the driver and prints what each call answers, writes, arms and changes.
-mod armed;
 mod begin;
-mod effects;
-mod pipes;
 mod play;
-mod print;
-mod read;
-mod runs;
-mod state;
-mod step;
-mod within;
 
 use crate::play::play;
-use crate::print::flush_rest;
-use crate::read::start;
-use crate::read::turn;
-use crate::state::fresh_state;
+use session::print::flush_rest;
+use session::read::start;
+use session::read::turn;
+use session::state::fresh_state;
 use transfers::driver::DeskRule;
 
 // A proved loop has to end, and nothing says that the input does: it counts down from a number that no run uses up.

@@ -10,8 +10,10 @@ use Rattle.script.specs.declared.command.Setup.{Setup}
 use Rattle.script.specs.declared.command.Control.{Control}
 use Rattle.script.specs.declared.command.Bulk.{Bulk}
 use Rattle.script.specs.declared.command.Stepping.{Stepping}
+use Rattle.script.specs.declared.command.Call.{Call}
+use Rattle.script.specs.declared.command.Call.the-variants.{Skipped, Wrong, Fresh, Rule, Lend, Memory, Buffer, StepIn, StepOut, Cancel, Open, Close, Poll, Irq, Detect, Record}
 use Rattle.script.specs.declared.command.Command.{Command}
-use Rattle.script.specs.declared.command.Command.the-variants.{Skipped, Wrong, Fresh, Rule, Lend, Memory, ControlIn, ControlOut, ControlNone, BulkIn, BulkOut, Buffer, StepIn, StepOut, Cancel, Open, Close, Poll, Irq, Detect, Record}
+use Rattle.script.specs.declared.command.Command.the-variants.{ControlIn, ControlOut, ControlNone, BulkIn, BulkOut, Other}
 use Rattle.script.specs.declared.bytes.OptionCount.{OptionCount}
 use Rattle.script.specs.declared.bytes.OptionCount.the-variants.{Some as Count, None as NoCount}
 use Rattle.script.specs.declared.typed.OptionByte.{OptionByte}
@@ -76,7 +78,16 @@ abbrev pub withBulk : {A : Type 0} → OptionBulk → A → (Bulk → A) → A
 withBulk (SomeBulk x) a f = f x
 withBulk NoBulk a f = a
 
--- What a line asks for, and the lent bytes with its BYTES at their start.
+-- What a line that begins no transfer asks for, and the lent bytes with its BYTES at their start.
+pub record Calling : Type 0 where
+  pub call : Call
+  pub stored : List ℕ
+
+-- Such a line's call beside the lent bytes.
+abbrev pub calling : Call → List ℕ → Calling
+calling c out = record { call = c; stored = out }
+
+-- The same for any line.
 pub record Reading : Type 0 where
   pub command : Command
   pub stored : List ℕ
@@ -86,7 +97,7 @@ abbrev pub reading : Command → List ℕ → Reading
 reading c out = record { command = c; stored = out }
 
 -- `rule 1` or `rule 2`.
-unfoldable pub ruleOf : List ℕ → Command
+unfoldable pub ruleOf : List ℕ → Call
 ruleOf line =
     cond (eqb (fieldsOf line) 2)
     (withByte (byteAt line 1) Wrong λ rule.
@@ -94,7 +105,7 @@ ruleOf line =
     Wrong
 
 -- `lend PMLEN LOGLEN`.
-unfoldable pub lendOf : List ℕ → Command
+unfoldable pub lendOf : List ℕ → Call
 lendOf line =
     cond (eqb (fieldsOf line) 3)
     (withCount (lengthAt line 1 4096) Wrong λ memory.
@@ -113,7 +124,7 @@ stepOf line =
     NoStep
 
 -- `open ADDRESS PREAMBLE ENDPOINT SIZE INTERVAL`.
-unfoldable pub openOf : List ℕ → Command
+unfoldable pub openOf : List ℕ → Call
 openOf line =
     cond (eqb (fieldsOf line) 6)
     (withByte (byteAt line 1) Wrong λ address.
@@ -125,7 +136,7 @@ openOf line =
     Wrong
 
 -- `close PIPE`.
-unfoldable pub closeOf : List ℕ → Command
+unfoldable pub closeOf : List ℕ → Call
 closeOf line =
     cond (eqb (fieldsOf line) 2)
     (withByte (byteAt line 1) Wrong λ pipe.
@@ -133,7 +144,7 @@ closeOf line =
     Wrong
 
 -- `poll PIPE EP_BUFFER_CONTROL HOST_ADDR_ENDP`.
-unfoldable pub pollOf : List ℕ → Command
+unfoldable pub pollOf : List ℕ → Call
 pollOf line =
     cond (eqb (fieldsOf line) 4)
     (withByte (byteAt line 1) Wrong λ pipe.
@@ -143,7 +154,7 @@ pollOf line =
     Wrong
 
 -- `irq INTS BUFF_STATUS`.
-unfoldable pub irqOf : List ℕ → Command
+unfoldable pub irqOf : List ℕ → Call
 irqOf line =
     cond (eqb (fieldsOf line) 3)
     (withWord (wordAt line 1) Wrong λ ints.
@@ -152,7 +163,7 @@ irqOf line =
     Wrong
 
 -- `detect SIE_STATUS`.
-unfoldable pub detectOf : List ℕ → Command
+unfoldable pub detectOf : List ℕ → Call
 detectOf line =
     cond (eqb (fieldsOf line) 2)
     (withWord (wordAt line 1) Wrong λ status.
@@ -160,31 +171,31 @@ detectOf line =
     Wrong
 
 -- `step-in SIE_STATUS INTR EP_BUFFER_CONTROL`.
-abbrev pub stepInOf : List ℕ → Command
+abbrev pub stepInOf : List ℕ → Call
 stepInOf line = withStep (stepOf line) Wrong λ s. StepIn s
 
 -- `step-out SIE_STATUS INTR EP_BUFFER_CONTROL`.
-abbrev pub stepOutOf : List ℕ → Command
+abbrev pub stepOutOf : List ℕ → Call
 stepOutOf line = withStep (stepOf line) Wrong λ s. StepOut s
 
 -- "`pm` past 4,096" can't be read.
-abbrev pub storedCommand : ℕ → ℕ → Command
-storedCommand offset count = cond (leb (offset + count) 4096) (Memory (record { offset = offset; count = count })) Wrong
+abbrev pub storedCall : ℕ → ℕ → Call
+storedCall offset count = cond (leb (offset + count) 4096) (Memory (record { offset = offset; count = count })) Wrong
 
 -- `pm OFFSET BYTES`.
-unfoldable pub memoryOf : List ℕ → List ℕ → Reading
+unfoldable pub memoryOf : List ℕ → List ℕ → Calling
 memoryOf line out =
     cond (eqb (fieldsOf line) 3)
-    (withCount (lengthAt line 1 4096) (reading Wrong out) λ offset.
-    reading (withCount (countAt line 2) Wrong λ n. storedCommand offset n) (storedAt out line 2))
-    (reading Wrong out)
+    (withCount (lengthAt line 1 4096) (calling Wrong out) λ offset.
+    calling (withCount (countAt line 2) Wrong λ n. storedCall offset n) (storedAt out line 2))
+    (calling Wrong out)
 
 -- `buffer BYTES`.
-unfoldable pub bufferOf : List ℕ → List ℕ → Reading
+unfoldable pub bufferOf : List ℕ → List ℕ → Calling
 bufferOf line out =
     cond (eqb (fieldsOf line) 2)
-    (reading (withCount (countAt line 1) Wrong λ n. Buffer n) (storedAt out line 1))
-    (reading Wrong out)
+    (calling (withCount (countAt line 1) Wrong λ n. Buffer n) (storedAt out line 1))
+    (calling Wrong out)
 
 -- The fields that every control has, on a line of n fields.
 unfoldable pub controlOf : List ℕ → ℕ → OptionControl
@@ -217,25 +228,37 @@ controlCount c n = record { address = c .address; preamble = c .preamble; size =
 abbrev pub bulkCount : Bulk → ℕ → Bulk
 bulkCount b n = record { address = b .address; endpoint = b .endpoint; size = b .size; variable = b .variable; toggle = b .toggle; count = n }
 
+-- The fields that every control has, and LEN.
+unfoldable pub controlLengthOf : List ℕ → OptionControl
+controlLengthOf line = withControl (controlOf line 6) NoControl λ c. withCount (lengthAt line 5 131072) NoControl λ n. SomeControl (controlCount c n)
+
+-- The fields that every bulk has, and LEN.
+unfoldable pub bulkLengthOf : List ℕ → OptionBulk
+bulkLengthOf line = withBulk (bulkOf line) NoBulk λ b. withCount (lengthAt line 6 131072) NoBulk λ n. SomeBulk (bulkCount b n)
+
+-- A begin that can't be read.
+abbrev pub unread : Command
+unread = Other Wrong
+
 -- `control-in ADDRESS PREAMBLE SIZE SETUP LEN`.
-unfoldable pub controlInOf : List ℕ → Command
-controlInOf line = withControl (controlOf line 6) Wrong λ c. withCount (lengthAt line 5 131072) Wrong λ n. ControlIn (controlCount c n)
+abbrev pub controlInOf : List ℕ → Command
+controlInOf line = withControl (controlLengthOf line) unread λ c. ControlIn c
 
 -- `control-out ADDRESS PREAMBLE SIZE SETUP BYTES`.
 unfoldable pub controlOutOf : List ℕ → List ℕ → Reading
-controlOutOf line out = withControl (controlOf line 6) (reading Wrong out) λ c. reading (withCount (countAt line 5) Wrong λ n. ControlOut (controlCount c n)) (storedAt out line 5)
+controlOutOf line out = withControl (controlOf line 6) (reading unread out) λ c. reading (withCount (countAt line 5) unread λ n. ControlOut (controlCount c n)) (storedAt out line 5)
 
 -- `control-none ADDRESS PREAMBLE SIZE SETUP`.
 unfoldable pub controlNoneOf : List ℕ → Command
-controlNoneOf line = withControl (controlOf line 5) Wrong λ c. ControlNone c
+controlNoneOf line = withControl (controlOf line 5) unread λ c. ControlNone c
 
 -- `bulk-in ADDRESS ENDPOINT SIZE TYPE TOGGLE LEN`.
-unfoldable pub bulkInOf : List ℕ → Command
-bulkInOf line = withBulk (bulkOf line) Wrong λ b. withCount (lengthAt line 6 131072) Wrong λ n. BulkIn (bulkCount b n)
+abbrev pub bulkInOf : List ℕ → Command
+bulkInOf line = withBulk (bulkLengthOf line) unread λ b. BulkIn b
 
 -- `bulk-out ADDRESS ENDPOINT SIZE TYPE TOGGLE BYTES`.
 unfoldable pub bulkOutOf : List ℕ → List ℕ → Reading
-bulkOutOf line out = withBulk (bulkOf line) (reading Wrong out) λ b. reading (withCount (countAt line 6) Wrong λ n. BulkOut (bulkCount b n)) (storedAt out line 6)
+bulkOutOf line out = withBulk (bulkOf line) (reading unread out) λ b. reading (withCount (countAt line 6) unread λ n. BulkOut (bulkCount b n)) (storedAt out line 6)
 
 -- `fresh`, in ASCII; so are the words below.
 abbrev pub word-fresh : List ℕ
@@ -314,36 +337,37 @@ abbrev pub word-detect : List ℕ
 word-detect = 100 ∷ 101 ∷ 116 ∷ 101 ∷ 99 ∷ 116 ∷ []
 
 -- `fresh`, `cancel` and `record`, which stand alone on their line.
-unfoldable pub aloneOf : List ℕ → Command
+unfoldable pub aloneOf : List ℕ → Call
 aloneOf line = cond (sameText line word-fresh) Fresh (cond (sameText line word-cancel) Cancel (cond (sameText line word-record) Record Wrong))
 
--- By a line's first word: the begins; any other line is one word.
+-- By a line's first word: the pipes, the interrupt routine and detection; any other line is one word.
+unfoldable pub pipeOf : List ℕ → List ℕ → Call
+pipeOf word line =
+    cond (sameText word word-open) (openOf line)
+    (cond (sameText word word-close) (closeOf line)
+    (cond (sameText word word-poll) (pollOf line)
+    (cond (sameText word word-irq) (irqOf line)
+    (cond (sameText word word-detect) (detectOf line) (aloneOf line)))))
+
+-- The steps, and what the hardware or the lender does; any other word is looked up among the pipes'.
+unfoldable pub callOf : List ℕ → List ℕ → List ℕ → Calling
+callOf word line out =
+    cond (sameText word word-step-in) (calling (stepInOf line) out)
+    (cond (sameText word word-step-out) (calling (stepOutOf line) out)
+    (cond (sameText word word-buffer) (bufferOf line out)
+    (cond (sameText word word-pm) (memoryOf line out)
+    (cond (sameText word word-lend) (calling (lendOf line) out)
+    (cond (sameText word word-rule) (calling (ruleOf line) out) (calling (pipeOf word line) out))))))
+
+-- The begins; any other word begins no transfer.
 unfoldable pub beginOf : List ℕ → List ℕ → List ℕ → Reading
 beginOf word line out =
     cond (sameText word word-control-in) (reading (controlInOf line) out)
     (cond (sameText word word-control-out) (controlOutOf line out)
     (cond (sameText word word-control-none) (reading (controlNoneOf line) out)
     (cond (sameText word word-bulk-in) (reading (bulkInOf line) out)
-    (cond (sameText word word-bulk-out) (bulkOutOf line out) (reading (aloneOf line) out)))))
-
--- The pipes, the interrupt routine and detection; any other word is a begin's or stands alone.
-unfoldable pub pipeOf : List ℕ → List ℕ → List ℕ → Reading
-pipeOf word line out =
-    cond (sameText word word-open) (reading (openOf line) out)
-    (cond (sameText word word-close) (reading (closeOf line) out)
-    (cond (sameText word word-poll) (reading (pollOf line) out)
-    (cond (sameText word word-irq) (reading (irqOf line) out)
-    (cond (sameText word word-detect) (reading (detectOf line) out) (beginOf word line out)))))
-
--- The steps, and what the hardware or the lender does; any other word is looked up among the pipes'.
-unfoldable pub callOf : List ℕ → List ℕ → List ℕ → Reading
-callOf word line out =
-    cond (sameText word word-step-in) (reading (stepInOf line) out)
-    (cond (sameText word word-step-out) (reading (stepOutOf line) out)
-    (cond (sameText word word-buffer) (bufferOf line out)
-    (cond (sameText word word-pm) (memoryOf line out)
-    (cond (sameText word word-lend) (reading (lendOf line) out)
-    (cond (sameText word word-rule) (reading (ruleOf line) out) (pipeOf word line out))))))
+    (cond (sameText word word-bulk-out) (bulkOutOf line out)
+    (reading (Other (callOf word line out .call)) (callOf word line out .stored))))))
 
 -- "Empty lines and lines that begin with `#` are skipped."
 abbrev pub isSkipped : List ℕ → Bool
@@ -351,4 +375,4 @@ isSkipped line = eqb (length line) 0 || eqb (getD line 0 0) 35
 
 -- What a line asks for.
 unfoldable pub lineOf : List ℕ → List ℕ → Reading
-lineOf line out = cond (isSkipped line) (reading Skipped out) (callOf (fieldOf line 0) line out)
+lineOf line out = cond (isSkipped line) (reading (Other Skipped) out) (beginOf (fieldOf line 0) line out)

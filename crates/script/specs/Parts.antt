@@ -32,6 +32,10 @@ fieldOf line k = partOf 32 line k
 abbrev pub fieldsOf : List ℕ → ℕ
 fieldsOf line = partsOf 32 line
 
+-- What stands after a line's first field.
+abbrev pub afterField : List ℕ → List ℕ
+afterField line = past 32 line
+
 -- Two texts are the same.
 unfoldable pub sameText : List ℕ → List ℕ → Bool
 sameText [] [] = true

@@ -2,6 +2,7 @@
 use crate::bytes::LONGEST;
 use crate::bytes::OptionCount;
 use crate::command::Bulk;
+use crate::command::Call;
 use crate::command::Command;
 use crate::command::Control;
 use crate::typed::OptionBit;
@@ -17,7 +18,7 @@ use crate::typed::length_at;
 use crate::typed::setup_at;
 use crate::typed::type_at;
 ghost use mathlib.Core.Path.{_≡_};
-ghost use Rattle.script.specs.Lines.{controlOf, bulkOf, controlCount, bulkCount, controlInOf, controlOutOf, controlNoneOf, bulkInOf, bulkOutOf};
+ghost use Rattle.script.specs.Lines.{controlOf, bulkOf, controlCount, bulkCount, controlLengthOf, bulkLengthOf, controlInOf, controlOutOf, controlNoneOf, bulkInOf, bulkOutOf};
 
 pub enum OptionControl {
     Some(Control),
@@ -30,7 +31,7 @@ pub enum OptionBulk {
 }
 
 // The fields that every control has, on a line of n fields.
-fn read_control(line: &[u8], n: usize) -> OptionControl
+pub fn read_control(line: &[u8], n: usize) -> OptionControl
     ensures { λ r. ⌜ r ≡ controlOf (now (line .entry)) n ⌝ }
 {
     if fields(line) != n {
@@ -124,19 +125,45 @@ fn bulk_count(b: Bulk, n: usize) -> Bulk
     }
 }
 
+// The fields that every control has, and LEN.
+pub fn read_control_length(line: &[u8]) -> OptionControl
+    ensures { λ r. ⌜ r ≡ controlLengthOf (now (line .entry)) ⌝ }
+{
+    let f1 = read_control(line, 6);
+    let OptionControl::Some(c) = f1 else {
+        return OptionControl::None;
+    };
+    let f2 = length_at(line, 5, LONGEST);
+    let OptionCount::Some(n) = f2 else {
+        return OptionControl::None;
+    };
+    OptionControl::Some(control_count(c, n))
+}
+
+// The fields that every bulk has, and LEN.
+pub fn read_bulk_length(line: &[u8]) -> OptionBulk
+    ensures { λ r. ⌜ r ≡ bulkLengthOf (now (line .entry)) ⌝ }
+{
+    let f1 = read_bulk(line);
+    let OptionBulk::Some(c) = f1 else {
+        return OptionBulk::None;
+    };
+    let f2 = length_at(line, 6, LONGEST);
+    let OptionCount::Some(n) = f2 else {
+        return OptionBulk::None;
+    };
+    OptionBulk::Some(bulk_count(c, n))
+}
+
 // `control-in ADDRESS PREAMBLE SIZE SETUP LEN`.
 pub(crate) fn read_control_in(line: &[u8]) -> Command
     ensures { λ r. ⌜ r ≡ controlInOf (now (line .entry)) ⌝ }
 {
-    let f1 = read_control(line, 6);
+    let f1 = read_control_length(line);
     let OptionControl::Some(c) = f1 else {
-        return Command::Wrong;
+        return Command::Other(Call::Wrong);
     };
-    let f2 = length_at(line, 5, LONGEST);
-    let OptionCount::Some(n) = f2 else {
-        return Command::Wrong;
-    };
-    Command::ControlIn(control_count(c, n))
+    Command::ControlIn(c)
 }
 
 // `control-out ADDRESS PREAMBLE SIZE SETUP BYTES`.
@@ -145,11 +172,11 @@ pub(crate) fn read_control_out(line: &[u8], out: &mut [u8; 131072]) -> Command
 {
     let f1 = read_control(line, 6);
     let OptionControl::Some(c) = f1 else {
-        return Command::Wrong;
+        return Command::Other(Call::Wrong);
     };
     let f2 = bytes_at(line, 5, out);
     let OptionCount::Some(n) = f2 else {
-        return Command::Wrong;
+        return Command::Other(Call::Wrong);
     };
     Command::ControlOut(control_count(c, n))
 }
@@ -160,7 +187,7 @@ pub(crate) fn read_control_none(line: &[u8]) -> Command
 {
     let f1 = read_control(line, 5);
     let OptionControl::Some(c) = f1 else {
-        return Command::Wrong;
+        return Command::Other(Call::Wrong);
     };
     Command::ControlNone(c)
 }
@@ -169,15 +196,11 @@ pub(crate) fn read_control_none(line: &[u8]) -> Command
 pub(crate) fn read_bulk_in(line: &[u8]) -> Command
     ensures { λ r. ⌜ r ≡ bulkInOf (now (line .entry)) ⌝ }
 {
-    let f1 = read_bulk(line);
+    let f1 = read_bulk_length(line);
     let OptionBulk::Some(c) = f1 else {
-        return Command::Wrong;
+        return Command::Other(Call::Wrong);
     };
-    let f2 = length_at(line, 6, LONGEST);
-    let OptionCount::Some(n) = f2 else {
-        return Command::Wrong;
-    };
-    Command::BulkIn(bulk_count(c, n))
+    Command::BulkIn(c)
 }
 
 // `bulk-out ADDRESS ENDPOINT SIZE TYPE TOGGLE BYTES`.
@@ -186,11 +209,11 @@ pub(crate) fn read_bulk_out(line: &[u8], out: &mut [u8; 131072]) -> Command
 {
     let f1 = read_bulk(line);
     let OptionBulk::Some(c) = f1 else {
-        return Command::Wrong;
+        return Command::Other(Call::Wrong);
     };
     let f2 = bytes_at(line, 6, out);
     let OptionCount::Some(n) = f2 else {
-        return Command::Wrong;
+        return Command::Other(Call::Wrong);
     };
     Command::BulkOut(bulk_count(c, n))
 }

@@ -13,7 +13,8 @@ ghost use lib.Seq.{sets};
 ghost use Rattle.script.specs.Numbers.{digitOf, allDigits};
 ghost use Rattle.script.specs.Bytes.{pairsOf, hexBytes, seqAt, seqFrom, seqBytes, isSeq, bytesOf, countIn, storedIn};
 
-pub(crate) const LONGEST: u32 = 131072;
+// LEN and the count of BYTES are at most this.
+pub const LONGEST: u32 = 131072;
 
 // How many bytes there are, at the start of those lent.
 pub enum OptionCount {

@@ -63,19 +63,14 @@ pub struct Interrupt {
     pub status: u32,
 }
 
-// `Skipped` is an empty line or a comment, `Wrong` a line that can't be read.
-pub enum Command {
+// A line that begins no transfer. `Skipped` is an empty line or a comment, `Wrong` a line that can't be read.
+pub enum Call {
     Skipped,
     Wrong,
     Fresh,
     Rule(u8),
     Lend(Lent),
     Memory(Stored),
-    ControlIn(Control),
-    ControlOut(Control),
-    ControlNone(Control),
-    BulkIn(Bulk),
-    BulkOut(Bulk),
     Buffer(usize),
     StepIn(Stepping),
     StepOut(Stepping),
@@ -86,4 +81,13 @@ pub enum Command {
     Irq(Interrupt),
     Detect(u32),
     Record,
+}
+
+pub enum Command {
+    ControlIn(Control),
+    ControlOut(Control),
+    ControlNone(Control),
+    BulkIn(Bulk),
+    BulkOut(Bulk),
+    Other(Call),
 }

@@ -29,7 +29,7 @@ fn first_part<'a>(text: &'a [u8], sep: u8) -> &'a [u8]
 }
 
 // What stands after the first separator.
-fn rest<'a>(text: &'a [u8], sep: u8) -> &'a [u8]
+pub(crate) fn rest<'a>(text: &'a [u8], sep: u8) -> &'a [u8]
     ensures { λ r. ⌜ now r ≡ past sep (now (text .entry)) ⌝ }
 {
     let e = end_of(text, sep);

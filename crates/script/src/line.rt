@@ -15,25 +15,72 @@ use crate::calls::read_poll;
 use crate::calls::read_rule;
 use crate::calls::read_step_in;
 use crate::calls::read_step_out;
+use crate::command::Call;
 use crate::command::Command;
 use crate::field::same;
 use crate::typed::field;
 ghost use mathlib.Core.Path.{_≡_};
-ghost use Rattle.script.specs.Lines.{aloneOf, beginOf, pipeOf, callOf, isSkipped, lineOf};
+ghost use Rattle.script.specs.Lines.{aloneOf, pipeOf, callOf, beginOf, isSkipped, lineOf};
 
-fn read_alone(line: &[u8]) -> Command
+fn read_alone(line: &[u8]) -> Call
     ensures { λ r. ⌜ r ≡ aloneOf (now (line .entry)) ⌝ }
 {
     if same(line, b"fresh") {
-        return Command::Fresh;
+        return Call::Fresh;
     }
     if same(line, b"cancel") {
-        return Command::Cancel;
+        return Call::Cancel;
     }
     if same(line, b"record") {
-        return Command::Record;
+        return Call::Record;
     }
-    Command::Wrong
+    Call::Wrong
+}
+
+fn read_pipe(word: &[u8], line: &[u8]) -> Call
+    ensures { λ r. ⌜ r ≡ pipeOf (now (word .entry)) (now (line .entry)) ⌝ }
+{
+    if same(word, b"open") {
+        return read_open(line);
+    }
+    if same(word, b"close") {
+        return read_close(line);
+    }
+    if same(word, b"poll") {
+        return read_poll(line);
+    }
+    if same(word, b"irq") {
+        return read_irq(line);
+    }
+    if same(word, b"detect") {
+        return read_detect(line);
+    }
+    read_alone(line)
+}
+
+// By the first word: a line that begins no transfer.
+pub fn read_call(word: &[u8], line: &[u8], out: &mut [u8; 131072]) -> Call
+    ensures { λ r. ⌜ (r ≡ callOf (now (word .entry)) (now (line .entry)) (now (out .entry)) .call) × (now (out .exit) ≡ callOf (now (word .entry)) (now (line .entry)) (now (out .entry)) .stored) ⌝ }
+{
+    if same(word, b"step-in") {
+        return read_step_in(line);
+    }
+    if same(word, b"step-out") {
+        return read_step_out(line);
+    }
+    if same(word, b"buffer") {
+        return read_buffer(line, out);
+    }
+    if same(word, b"pm") {
+        return read_memory(line, out);
+    }
+    if same(word, b"lend") {
+        return read_lend(line);
+    }
+    if same(word, b"rule") {
+        return read_rule(line);
+    }
+    read_pipe(word, line)
 }
 
 fn read_begin(word: &[u8], line: &[u8], out: &mut [u8; 131072]) -> Command
@@ -54,52 +101,7 @@ fn read_begin(word: &[u8], line: &[u8], out: &mut [u8; 131072]) -> Command
     if same(word, b"bulk-out") {
         return read_bulk_out(line, out);
     }
-    read_alone(line)
-}
-
-fn read_pipe(word: &[u8], line: &[u8], out: &mut [u8; 131072]) -> Command
-    ensures { λ r. ⌜ (r ≡ pipeOf (now (word .entry)) (now (line .entry)) (now (out .entry)) .command) × (now (out .exit) ≡ pipeOf (now (word .entry)) (now (line .entry)) (now (out .entry)) .stored) ⌝ }
-{
-    if same(word, b"open") {
-        return read_open(line);
-    }
-    if same(word, b"close") {
-        return read_close(line);
-    }
-    if same(word, b"poll") {
-        return read_poll(line);
-    }
-    if same(word, b"irq") {
-        return read_irq(line);
-    }
-    if same(word, b"detect") {
-        return read_detect(line);
-    }
-    read_begin(word, line, out)
-}
-
-fn read_call(word: &[u8], line: &[u8], out: &mut [u8; 131072]) -> Command
-    ensures { λ r. ⌜ (r ≡ callOf (now (word .entry)) (now (line .entry)) (now (out .entry)) .command) × (now (out .exit) ≡ callOf (now (word .entry)) (now (line .entry)) (now (out .entry)) .stored) ⌝ }
-{
-    if same(word, b"step-in") {
-        return read_step_in(line);
-    }
-    if same(word, b"step-out") {
-        return read_step_out(line);
-    }
-    if same(word, b"buffer") {
-        return read_buffer(line, out);
-    }
-    if same(word, b"pm") {
-        return read_memory(line, out);
-    }
-    if same(word, b"lend") {
-        return read_lend(line);
-    }
-    if same(word, b"rule") {
-        return read_rule(line);
-    }
-    read_pipe(word, line, out)
+    Command::Other(read_call(word, line, out))
 }
 
 // Whether a line is empty or begins with `#`.
@@ -117,7 +119,7 @@ pub fn parse(line: &[u8], out: &mut [u8; 131072]) -> Command
     ensures { λ r. ⌜ (r ≡ lineOf (now (line .entry)) (now (out .entry)) .command) × (now (out .exit) ≡ lineOf (now (line .entry)) (now (out .entry)) .stored) ⌝ }
 {
     if is_skipped(line) {
-        return Command::Skipped;
+        return Command::Other(Call::Skipped);
     }
-    read_call(field(line, 0), line, out)
+    read_begin(field(line, 0), line, out)
 }

@@ -6,6 +6,7 @@ use crate::bytes::pair_at;
 use crate::command::Setup;
 use crate::field::part;
 use crate::field::parts;
+use crate::field::rest;
 use crate::field::same;
 use crate::number::OptionNumber;
 use crate::number::number;
@@ -14,7 +15,7 @@ ghost use mathlib.Core.Bool.{true};
 ghost use Prim.Native.Nat.{_≤_, _<_, _+_, _*_};
 ghost use lib.ListN.{length};
 ghost use Rattle.script.specs.Numbers.{allDigits};
-ghost use Rattle.script.specs.Parts.{fieldOf, fieldsOf};
+ghost use Rattle.script.specs.Parts.{fieldOf, fieldsOf, afterField};
 ghost use Rattle.script.specs.Typed.{byteAt, halfAt, wordAt, bitAt, lengthAt, typeAt, halfPair, setupOf, setupIn, setupAt, countAt, storedAt};
 
 pub enum OptionByte {
@@ -56,6 +57,13 @@ pub fn field<'a>(line: &'a [u8], k: usize) -> &'a [u8]
     ensures { λ r. ⌜ now r ≡ fieldOf (now (line .entry)) k ⌝ }
 {
     part(line, SPACE, k)
+}
+
+// What stands after the first field.
+pub fn after_field<'a>(line: &'a [u8]) -> &'a [u8]
+    ensures { λ r. ⌜ now r ≡ afterField (now (line .entry)) ⌝ }
+{
+    rest(line, SPACE)
 }
 
 // A number up to 255.

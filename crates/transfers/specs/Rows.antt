@@ -36,17 +36,21 @@ unless false n rest = number n
 
 -- ---- begin: "8 a transfer is under way; 12 address above 127; 11 bulk endpoint not 1 to 15; 13 packet size not 1 to 64; 14 bulk buffer above 65,535 bytes"
 
--- A control begin, of an address and a packet size: it has no endpoint and no limit of its buffer.
+-- A control's fields, address and packet size: it has no endpoint and no limit of its buffer.
+abbrev pub controlFieldsRow : ℕ → ℕ → Reply (Unit {0})
+controlFieldsRow a p = unless (leb a 127) 12 (unless (leb 1 p && leb p 64) 13 (result tt))
+
+-- A bulk transfer's: address, endpoint, packet size and its buffer's length.
+abbrev pub bulkFieldsRow : ℕ → ℕ → ℕ → ℕ → Reply (Unit {0})
+bulkFieldsRow a e p n = unless (leb a 127) 12 (unless (leb 1 e && leb e 15) 11 (unless (leb 1 p && leb p 64) 13 (unless (leb n 65535) 14 (result tt))))
+
+-- A control begin.
 abbrev pub controlRow : Transfer → ℕ → ℕ → List ℕ → List ℕ → Reply (Unit {0})
-controlRow t a p m log =
-    unless (eqb (length m) 4096 && leb 192 (length log)) 15
-    (unless (isIdle t) 8 (unless (leb a 127) 12 (unless (leb 1 p && leb p 64) 13 (result tt))))
+controlRow t a p m log = unless (eqb (length m) 4096 && leb 192 (length log)) 15 (unless (isIdle t) 8 (controlFieldsRow a p))
 
 -- A bulk begin, IN or OUT.
 abbrev pub bulkRow : Transfer → ℕ → ℕ → ℕ → List ℕ → List ℕ → List ℕ → Reply (Unit {0})
-bulkRow t a e p buf m log =
-    unless (eqb (length m) 4096 && leb 192 (length log)) 15
-    (unless (isIdle t) 8 (unless (leb a 127) 12 (unless (leb 1 e && leb e 15) 11 (unless (leb 1 p && leb p 64) 13 (unless (leb (length buf) 65535) 14 (result tt))))))
+bulkRow t a e p buf m log = unless (eqb (length m) 4096 && leb 192 (length log)) 15 (unless (isIdle t) 8 (bulkFieldsRow a e p (length buf)))
 
 -- ---- step and cancel
 

@@ -109,7 +109,7 @@ pub(crate) fn cancel(t: Transfer) -> Cancelled
     }
 }
 
-fn is_idle(t: Transfer) -> bool
+pub fn is_idle(t: Transfer) -> bool
     ensures { λ r. ⌜ r ≡ isIdle t ⌝ }
 {
     match t {
@@ -119,7 +119,7 @@ fn is_idle(t: Transfer) -> bool
 }
 
 // Whether begin refuses these fields; an endpoint or length that isn't looked at is good.
-fn fields_refusal(address: u8, endpoint: bool, size: u16, length: bool) -> OptionRefusal
+pub fn fields_refusal(address: u8, endpoint: bool, size: u16, length: bool) -> OptionRefusal
     ensures { λ r. ⌜ r ≡ fieldsRefusal (addressGood address) endpoint (sizeGood size) length ⌝ }
 {
     if !address_good(address) {

@@ -11,7 +11,7 @@ pub(crate) fn log_fits(log: &[u32]) -> bool
     192 <= log.len()
 }
 
-pub(crate) fn lent_fits(pm: &[u8], log: &[u32]) -> bool
+pub fn lent_fits(pm: &[u8], log: &[u32]) -> bool
     ensures { λ r. ⌜ r ≡ lentFits (now (pm .entry)) (now (log .entry)) ⌝ }
 {
     if pm.len() == 4096 {

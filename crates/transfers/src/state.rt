@@ -113,7 +113,7 @@ pub(crate) fn address_good(address: u8) -> bool
     address <= 127
 }
 
-pub(crate) fn endpoint_good(endpoint: u8) -> bool
+pub fn endpoint_good(endpoint: u8) -> bool
     ensures { λ r. ⌜ r ≡ endpointGood endpoint ⌝ }
 {
     if 1 <= endpoint { endpoint <= 15 } else { false }

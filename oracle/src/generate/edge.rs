@@ -1,8 +1,9 @@
 //! Scripts of refused calls and limits.
 
 use super::Generator;
+use crate::caller_lines::coming;
 use crate::player::{UnderWay, ERRORS};
-use crate::script::Way;
+use crate::script::{Format, Way};
 use std::io::{self, Write};
 
 impl<W: Write> Generator<W> {
@@ -31,7 +32,7 @@ impl<W: Write> Generator<W> {
             240..260 => self.detect(),
             260..280 => self.any_packet_memory(),
             280..320 => self.own_buffer(under_way),
-            320..460 => self.any_begin(),
+            320..460 if self.is_begin_wanted() => self.any_begin(),
             _ => self.wild_step(under_way),
         }
     }
@@ -98,7 +99,29 @@ impl<W: Write> Generator<W> {
                 format!("bulk-out {address} {endpoint} {size} {kind} {bit} {bytes}")
             }
         };
-        self.line(&text)
+        self.begin(&text)
+    }
+
+    /// A begin with fields of all sorts; of a callers' script mostly a start.
+    fn any_begin_or_start(&mut self) -> io::Result<()> {
+        match self.player.format {
+            Format::Replay => self.any_begin(),
+            Format::Callers if self.rng.bit() => self.any_start(),
+            Format::Callers => self.dispatch(),
+        }
+    }
+
+    /// The transfer is begun, with nothing under way; of a callers' script, with nobody
+    /// waiting.
+    fn begin_alone(&mut self, text: &str) -> io::Result<()> {
+        match self.player.format {
+            Format::Replay => self.line(text),
+            Format::Callers => {
+                let caller = self.rng.below(8);
+                self.line(&coming(caller, text))?;
+                self.sound_start()
+            }
+        }
     }
 
     pub fn any_open(&mut self) -> io::Result<()> {
@@ -131,7 +154,7 @@ impl<W: Write> Generator<W> {
         self.line(&format!("lend {packet_memory} {log}"))?;
         for _ in 0..self.rng.below(6) {
             match self.rng.below(4) {
-                0 => self.any_begin()?,
+                0 => self.any_begin_or_start()?,
                 1 => self.any_open()?,
                 2 => self.side_call()?,
                 _ => {
@@ -146,8 +169,10 @@ impl<W: Write> Generator<W> {
     /// The longest transfers, with a sound device; two OUTs fill the record. One in three
     /// is broken off.
     fn long_transfers(&mut self) -> io::Result<()> {
-        if self.player.under_way.is_some() {
-            self.line("cancel")?;
+        match (self.player.format, self.player.under_way) {
+            (Format::Callers, _) => self.line("fresh")?,
+            (Format::Replay, Some(_)) => self.line("cancel")?,
+            (Format::Replay, None) => {}
         }
         for _ in 0..self.rng.pick(&[1, 2, 3]) {
             let kind = self.rng.pick(&["fixed", "variable"]);
@@ -159,7 +184,7 @@ impl<W: Write> Generator<W> {
                 4 => format!("bulk-out 127 15 64 {kind} 1 seq:65535:0:1"),
                 _ => format!("bulk-out 127 15 64 {kind} 0 seq:65472:0:1"),
             };
-            self.line(&text)?;
+            self.begin_alone(&text)?;
             let steps = match self.rng.once_in(3) {
                 true => self.rng.below(600),
                 false => u64::MAX,
@@ -174,11 +199,11 @@ impl<W: Write> Generator<W> {
     /// A record with room for 0 to 15 bytes more, and then a count.
     fn brimful(&mut self) -> io::Result<()> {
         self.line("fresh")?;
-        self.line("bulk-out 127 15 64 fixed 0 seq:65535:0:1")?;
+        self.begin_alone("bulk-out 127 15 64 fixed 0 seq:65535:0:1")?;
         self.go_on(u64::MAX)?;
         // 54,289 would leave 5.
         let length = 54_279 + self.rng.below(16);
-        self.line(&format!("bulk-out 127 15 64 fixed 0 seq:{length}:0:1"))?;
+        self.begin_alone(&format!("bulk-out 127 15 64 fixed 0 seq:{length}:0:1"))?;
         for _ in 0..length / 128 {
             self.step(Way::Out, 0, 0x10, 0)?;
         }

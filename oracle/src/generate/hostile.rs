@@ -21,7 +21,7 @@ impl<W: Write> Generator<W> {
                 ..under_way
             }),
             (Some(under_way), _) => self.wild_step(under_way),
-            (None, _) => self.sound_begin(),
+            (None, _) => self.next_transfer(),
         }
     }
 

@@ -4,7 +4,7 @@ use super::Generator;
 use crate::player::{UnderWay, ERRORS, TRANS_COMPLETE};
 use crate::print::hex;
 use crate::rng::Rng;
-use crate::script::{Step, Way};
+use crate::script::{Format, Step, Way};
 use std::io::{self, Write};
 
 impl<W: Write> Generator<W> {
@@ -36,6 +36,14 @@ impl<W: Write> Generator<W> {
         let mut bytes = self.rng.word().to_le_bytes();
         bytes[6..].copy_from_slice(&(length as u16).to_le_bytes());
         hex(&bytes)
+    }
+
+    /// With nothing under way, what leads to the next transfer.
+    pub fn next_transfer(&mut self) -> io::Result<()> {
+        match self.player.format {
+            Format::Replay => self.sound_begin(),
+            Format::Callers => self.dispatch(),
+        }
     }
 
     /// A begin with every field in range.
@@ -70,7 +78,15 @@ impl<W: Write> Generator<W> {
                 format!("bulk-out {address} {endpoint} {size} {kind} {bit} {bytes}")
             }
         };
-        self.line(&text)
+        self.begin(&text)
+    }
+
+    /// A begin's line; of a callers' script the transfer comes.
+    pub fn begin(&mut self, text: &str) -> io::Result<()> {
+        match self.player.format {
+            Format::Replay => self.line(text),
+            Format::Callers => self.come(text),
+        }
     }
 
     pub fn step(

@@ -11,7 +11,7 @@ impl<W: Write> Generator<W> {
     pub fn mangled(&mut self) -> io::Result<()> {
         match self.rng.below(8) {
             0 => self.short_loan(),
-            1 => self.any_begin(),
+            1 if self.is_begin_wanted() => self.any_begin(),
             2 => self.any_open(),
             _ => self.hostile(),
         }

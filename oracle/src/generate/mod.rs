@@ -1,5 +1,6 @@
-//! `oracle gen`: seeded random scripts.
+//! `oracle gen` and `oracle gen-callers`: seeded random scripts.
 
+mod callers;
 mod edge;
 mod hostile;
 mod lines;
@@ -8,7 +9,7 @@ mod well;
 
 use crate::player::Player;
 use crate::rng::Rng;
-use crate::script::DeskRule;
+use crate::script::{DeskRule, Format};
 pub use mangled::mangle;
 use std::io::{self, Write};
 
@@ -36,6 +37,11 @@ impl Kind {
         }
     }
 
+    /// Whether fields are at and past their limits.
+    fn has_limits(self) -> bool {
+        matches!(self, Self::Edge | Self::Mangled)
+    }
+
     pub fn named(name: &str) -> Option<Self> {
         Self::ALL.into_iter().find(|kind| kind.name() == name)
     }
@@ -44,6 +50,7 @@ impl Kind {
 /// A script with at least `calls` driver calls, refused ones too. Other lines come in
 /// between. The number of calls is answered.
 pub fn generate(
+    format: Format,
     seed: u64,
     calls: u64,
     kind: Kind,
@@ -53,7 +60,7 @@ pub fn generate(
     let mut generator = Generator {
         rng: Rng::new(seed),
         kind,
-        player: Player::new(out),
+        player: Player::new(out, format),
     };
     generator.player.line(match rule {
         DeskRule::One => b"fresh",
@@ -62,10 +69,13 @@ pub fn generate(
     while generator.player.calls < calls {
         if generator.rng.once_in(400) {
             generator.line("record")?;
-            generator.line("fresh")?;
+            generator.fresh()?;
         }
         let failures = generator.player.failures;
         match kind {
+            _ if format == Format::Callers && generator.rng.once_in(3) => {
+                generator.dispatch()?;
+            }
             Kind::Well => generator.well()?,
             Kind::Hostile => generator.hostile()?,
             Kind::Edge => generator.edge()?,
@@ -95,6 +105,15 @@ impl<W: Write> Generator<W> {
         self.player.line(text.as_bytes())
     }
 
+    /// A callers' script changes the desk rule now and then.
+    fn fresh(&mut self) -> io::Result<()> {
+        let text = match self.player.format {
+            Format::Replay => "fresh",
+            Format::Callers => self.rng.pick(&["fresh", "rule 1", "rule 2"]),
+        };
+        self.line(text)
+    }
+
     /// A transfer failed or was cancelled: the record, one time in four; seldom a cancel
     /// of nothing before it.
     fn after_a_failure(&mut self) -> io::Result<()> {
@@ -111,42 +130,49 @@ impl<W: Write> Generator<W> {
 #[cfg(test)]
 mod tests {
     use super::*;
+    use std::collections::BTreeSet;
 
-    fn script(seed: u64, kind: Kind) -> Vec<u8> {
+    fn script(format: Format, seed: u64, kind: Kind) -> Vec<u8> {
         let mut out = Vec::new();
-        assert!(generate(seed, 3000, kind, DeskRule::One, &mut out).unwrap() >= 3000);
+        let calls = generate(format, seed, 3000, kind, DeskRule::One, &mut out);
+        assert!(calls.unwrap() >= 3000);
         out
     }
 
     #[test]
     fn the_seed_decides() {
-        assert_eq!(script(1, Kind::Well), script(1, Kind::Well));
-        assert_ne!(script(1, Kind::Well), script(2, Kind::Well));
+        for format in [Format::Replay, Format::Callers] {
+            let script = |seed| script(format, seed, Kind::Well);
+            assert_eq!(script(1), script(1));
+            assert_ne!(script(1), script(2));
+        }
     }
 
-    /// Every answer and every refusal of the driver comes up.
-    #[test]
-    fn all_answers_come_up() {
-        let mut answers = std::collections::BTreeSet::new();
+    /// The answers that come up, refusals with their numbers.
+    fn answers(format: Format) -> BTreeSet<String> {
+        let mut answers = BTreeSet::new();
         for kind in Kind::ALL {
             let mut out = Vec::new();
-            crate::replay(&script(7, kind)[..], &mut out).unwrap();
+            crate::play(format, &script(format, 7, kind)[..], &mut out).unwrap();
             for line in String::from_utf8(out).unwrap().lines() {
                 let mut words = line.split(' ');
                 if words.next() == Some("answer") {
                     let word = words.next().unwrap();
                     let value = match word {
-                        "refused" | "device" | "waiting" => words.next().unwrap(),
+                        "refused" | "device" | "waiting" => words.next().unwrap_or(""),
                         _ => "",
                     };
                     answers.insert(format!("{word} {value}"));
                 }
             }
         }
-        let refusals = (1..=17).map(|number| format!("refused {number}"));
-        let others = [
+        answers
+    }
+
+    /// These refusals, the answers of both formats and these.
+    fn expected(refusals: impl Iterator<Item = u8>, others: &[&str]) -> BTreeSet<String> {
+        let both = [
             "ok ",
-            "begun ",
             "waiting 0",
             "waiting 1",
             "done ",
@@ -159,8 +185,22 @@ mod tests {
             "device low",
             "device full",
         ];
-        let all: std::collections::BTreeSet<String> =
-            refusals.chain(others.map(String::from)).collect();
-        assert_eq!(answers, all);
+        let refusals = refusals.map(|number| format!("refused {number}"));
+        let answers = both.iter().chain(others).map(|answer| answer.to_string());
+        refusals.chain(answers).collect()
+    }
+
+    /// Every answer and every refusal of the driver comes up.
+    #[test]
+    fn all_answers_come_up() {
+        assert_eq!(answers(Format::Replay), expected(1..=17, &["begun "]));
+    }
+
+    /// 8 no longer occurs.
+    #[test]
+    fn all_answers_to_callers_come_up() {
+        let refusals = (1..=7).chain(9..=17).chain(32..=33);
+        let others = ["waiting ", "started ", "turn ", "nobody "];
+        assert_eq!(answers(Format::Callers), expected(refusals, &others));
     }
 }

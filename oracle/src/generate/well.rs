@@ -12,7 +12,7 @@ impl<W: Write> Generator<W> {
             (_, 0..15) => self.side_call(),
             (Some(_), 15) => self.line("cancel"),
             (Some(under_way), _) => self.sound_step(under_way),
-            (None, _) => self.sound_begin(),
+            (None, _) => self.next_transfer(),
         }
     }
 

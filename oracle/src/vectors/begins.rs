@@ -1,7 +1,7 @@
 //! Begins: the limits of each field, and what is written for each kind and length.
 
 use super::{bulk, lengths, Vectors};
-use crate::script::Way;
+use crate::script::{Format, Way};
 use std::io::{self, Write};
 
 impl<W: Write> Vectors<W> {
@@ -38,7 +38,11 @@ impl<W: Write> Vectors<W> {
     }
 
     fn try_begin(&mut self, begin: &str) -> io::Result<()> {
-        self.lines(&[begin, "cancel"])
+        match self.player.format {
+            Format::Replay => self.line(begin)?,
+            Format::Callers => self.come_and_start(0, begin)?,
+        }
+        self.line("cancel")
     }
 
     /// Every byte of a SETUP, and both preambles.

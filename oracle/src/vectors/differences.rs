@@ -8,6 +8,9 @@ const TABLES: &str = include_str!("../../../docs/DIFFERENCES.md");
 /// An input that begins so is no script.
 const DESCRIPTORS: &str = "descriptors ";
 
+/// An input that begins so is a script of `callers`.
+const CALLERS: &str = "callers ";
+
 struct Row {
     number: &'static str,
     /// What is in code type under "here".
@@ -18,20 +21,28 @@ struct Row {
     /// The lines of `descriptorcases` there.
     #[cfg_attr(not(test), allow(dead_code))]
     configurations: Vec<&'static str>,
+    /// The scripts of `callers` there.
+    #[cfg_attr(not(test), allow(dead_code))]
+    callers: Vec<&'static str>,
 }
 
 fn rows() -> impl Iterator<Item = Row> {
     let is_row = |line: &&str| line.starts_with("| ") && !line.starts_with("| #");
     TABLES.lines().filter(is_row).map(|line| {
         let cells: Vec<&str> = line.trim_matches('|').split('|').collect();
-        let (configurations, scripts) = in_code_type(cells[cells.len() - 1])
+        let (configurations, scripts): (Vec<_>, Vec<_>) =
+            in_code_type(cells[cells.len() - 1])
+                .into_iter()
+                .partition(|input| input.starts_with(DESCRIPTORS));
+        let (callers, scripts) = scripts
             .into_iter()
-            .partition(|input| input.starts_with(DESCRIPTORS));
+            .partition(|input| input.starts_with(CALLERS));
         Row {
             number: cells[0].trim(),
             here: in_code_type(cells[3]),
             scripts,
             configurations,
+            callers,
         }
     })
 }
@@ -66,18 +77,24 @@ mod tests {
     use crate::host_controller::{DeviceStatus, TransferType, UsbSpeed};
     use crate::rp2040::view::first_at_0;
     use crate::rules::Lent;
+    use crate::script::Format;
 
     /// Each script's last block has the answer, or a line, that its row names.
     #[test]
     fn every_script_answers_as_its_row_says() {
         let mut without = Vec::new();
         for row in rows() {
-            if row.scripts.is_empty() && row.configurations.is_empty() {
+            let callers = row.callers.iter().map(|input| &input[CALLERS.len()..]);
+            let callers = callers.map(|script| (Format::Callers, script));
+            let scripts = row.scripts.iter().map(|script| (Format::Replay, *script));
+            let scripts: Vec<_> = scripts.chain(callers).collect();
+            if scripts.is_empty() && row.configurations.is_empty() {
                 without.push(row.number);
             }
-            for script in row.scripts {
+            for (format, script) in scripts {
                 let mut out = Vec::new();
-                crate::replay(script.replace(" / ", "\n").as_bytes(), &mut out).unwrap();
+                let script = script.replace(" / ", "\n");
+                crate::play(format, script.as_bytes(), &mut out).unwrap();
                 let out = String::from_utf8(out).unwrap();
                 let last = out
                     .trim_end_matches("\n.\n")

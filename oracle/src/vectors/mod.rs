@@ -1,8 +1,10 @@
-//! `oracle vectors`: the stored script, an enumerated list. Its cases stand in files by
-//! call and branch; each begins with a comment and `fresh`, or `rule`.
+//! `oracle vectors` and `oracle callers-vectors`: the stored scripts, enumerated lists.
+//! Their cases stand in files by call and branch; each begins with a comment and `fresh`,
+//! or `rule`.
 
 mod begins;
 mod bulk;
+mod callers;
 mod control;
 mod differences;
 mod failures;
@@ -16,14 +18,12 @@ mod stages;
 mod toggles;
 
 use crate::player::Player;
-use crate::script::{Step, Way};
+use crate::script::{Format, Step, Way};
 use std::io::{self, Write};
 
 pub fn vectors(out: impl Write) -> io::Result<()> {
-    let mut vectors = Vectors {
-        player: Player::new(out),
-    };
-    vectors.scripts()?;
+    let mut vectors = Vectors::new(out, Format::Replay);
+    vectors.scripts(&scripts::REPLAY)?;
     vectors.differences()?;
     vectors.refusals()?;
     vectors.begins()?;
@@ -39,11 +39,26 @@ pub fn vectors(out: impl Write) -> io::Result<()> {
     vectors.player.flush()
 }
 
+/// Of the callers' format.
+pub fn callers_vectors(out: impl Write) -> io::Result<()> {
+    let mut vectors = Vectors::new(out, Format::Callers);
+    vectors.scripts(&scripts::CALLERS)?;
+    vectors.callers()?;
+    vectors.begins()?;
+    vectors.player.flush()
+}
+
 struct Vectors<W> {
     player: Player<W>,
 }
 
 impl<W: Write> Vectors<W> {
+    fn new(out: W, format: Format) -> Self {
+        Self {
+            player: Player::new(out, format),
+        }
+    }
+
     fn line(&mut self, text: &str) -> io::Result<()> {
         self.player.line(text.as_bytes())
     }
@@ -100,34 +115,53 @@ fn lengths(size: u32) -> Vec<u32> {
 mod tests {
     use super::*;
 
-    fn unreadable_lines(script: &[u8]) -> usize {
+    fn unreadable_lines(script: &[u8], format: Format) -> usize {
         let lines = script.split(|byte| *byte == b'\n');
         lines
-            .filter(|line| crate::script::parse(line).is_err())
+            .filter(|line| crate::script::parse(line, format).is_err())
             .count()
     }
 
-    /// Every line is played or skipped, but for those of the script of unreadable lines.
+    /// Every line is played or skipped, but for those of the scripts of unreadable lines.
     #[test]
-    fn the_script_is_readable() {
-        let mut script = Vec::new();
-        vectors(&mut script).unwrap();
-        let meant = unreadable_lines(scripts::UNREADABLE.as_bytes());
-        assert_eq!(unreadable_lines(&script), meant);
+    fn the_scripts_are_readable() {
+        let (mut replay, mut callers) = (Vec::new(), Vec::new());
+        vectors(&mut replay).unwrap();
+        callers_vectors(&mut callers).unwrap();
+        for (script, meant, format) in [
+            (replay, scripts::UNREADABLE, Format::Replay),
+            (callers, scripts::CALLERS_UNREADABLE, Format::Callers),
+        ] {
+            let meant = unreadable_lines(meant.as_bytes(), format);
+            assert_eq!(unreadable_lines(&script, format), meant);
+        }
     }
 
     /// The gate's script and output are these, where they are stored.
-    #[test]
-    fn the_stored_vectors_are_current() {
-        let folder =
-            std::path::Path::new(env!("CARGO_MANIFEST_DIR")).join("../crates/replay");
+    fn check_stored(
+        program: &str,
+        vectors: impl Fn(&mut Vec<u8>) -> io::Result<()>,
+        format: Format,
+    ) {
+        let crates = std::path::Path::new(env!("CARGO_MANIFEST_DIR")).join("../crates");
+        let folder = crates.join(program);
         if !folder.join("stdin").exists() {
             return;
         }
         let (mut script, mut output) = (Vec::new(), Vec::new());
         vectors(&mut script).unwrap();
-        crate::replay(&script[..], &mut output).unwrap();
+        crate::play(format, &script[..], &mut output).unwrap();
         assert!(std::fs::read(folder.join("stdin")).unwrap() == script);
         assert!(std::fs::read(folder.join("stdout")).unwrap() == output);
+    }
+
+    #[test]
+    fn stored_replay() {
+        check_stored("replay", |out| vectors(out), Format::Replay);
+    }
+
+    #[test]
+    fn stored_callers() {
+        check_stored("callers", |out| callers_vectors(out), Format::Callers);
     }
 }

@@ -5,16 +5,20 @@ use super::Vectors;
 use std::io::{self, Write};
 
 #[derive(Clone, Copy, Debug, PartialEq, Eq)]
-enum Fault {
+pub enum Fault {
     PacketMemory,
     Log,
-    /// A begin: a transfer is under way. A step: none is. An open: all pipes are. A poll
-    /// or close: the pipe isn't.
+    /// A begin or start: a transfer is under way. A step: none is. An open: all pipes
+    /// are. A poll or close: the pipe isn't. A coming: the caller waits.
     Busy,
     Address,
     Endpoint,
     Size,
     Length,
+    /// A coming: the caller's number. A start: nobody has the turn.
+    Caller,
+    /// A start: the caller's transfer is of another.
+    Kind,
 }
 
 use Fault::{Address, Busy, Endpoint, Length, Log, PacketMemory, Size};
@@ -39,14 +43,12 @@ impl<W: Write> Vectors<W> {
     }
 
     fn one_or_two(&mut self, call: &str, faults: &[Fault]) -> io::Result<()> {
-        for (i, first) in faults.iter().enumerate() {
-            for second in &faults[i..] {
-                self.case(&format!("{call}: {first:?}, {second:?}"))?;
-                let has = |fault| *first == fault || *second == fault;
-                self.before(call, has(Busy))?;
-                self.lend(has(PacketMemory), has(Log))?;
-                self.faulty(call, has)?;
-            }
+        for pair in pairs(faults) {
+            self.case(&format!("{call}: {:?}, {:?}", pair[0], pair[1]))?;
+            let has = |fault| pair.contains(&fault);
+            self.before(call, has(Busy))?;
+            self.lend(has(PacketMemory), has(Log))?;
+            self.faulty(call, has)?;
         }
         Ok(())
     }
@@ -75,7 +77,7 @@ impl<W: Write> Vectors<W> {
         }
     }
 
-    fn lend(&mut self, short_packet_memory: bool, short_log: bool) -> io::Result<()> {
+    pub fn lend(&mut self, short_packet_memory: bool, short_log: bool) -> io::Result<()> {
         if !short_packet_memory && !short_log {
             return Ok(());
         }
@@ -85,30 +87,10 @@ impl<W: Write> Vectors<W> {
     }
 
     fn faulty(&mut self, call: &str, has: impl Fn(Fault) -> bool) -> io::Result<()> {
-        let address = if has(Address) { 128 } else { 1 };
-        let endpoint = if has(Endpoint) { 16 } else { 1 };
-        let size = if has(Size) { 65 } else { 8 };
-        let length = if has(Length) { 65_536 } else { 1 };
-        let setup = "0009010000000000";
         if call.starts_with("step") && has(Length) {
             self.line("buffer 00")?;
         }
-        self.line(&match call {
-            "control-in" => format!("{call} {address} 0 {size} {setup} 1"),
-            "control-out" => format!("{call} {address} 0 {size} {setup} 00"),
-            "control-none" => format!("{call} {address} 0 {size} {setup}"),
-            "bulk-in" => format!("{call} {address} {endpoint} {size} fixed 0 {length}"),
-            "bulk-out" => {
-                format!("{call} {address} {endpoint} {size} fixed 0 seq:{length}:0:1")
-            }
-            "step-in" | "step-out" => format!("{call} 0 0x10 0"),
-            "open" => format!("{call} {address} 0 {endpoint} {size} 1"),
-            "poll" => format!("{call} 1 0x8008 0x00010001"),
-            "close" => format!("{call} 1"),
-            "irq" => format!("{call} 0x11 4"),
-            "detect" => format!("{call} 0x100"),
-            _ => call.to_string(),
-        })
+        self.line(&faulty_line(call, has))
     }
 
     /// Lengths lent, with every call; a wrong one changes nothing for cancel and close.
@@ -133,5 +115,39 @@ impl<W: Write> Vectors<W> {
             ])?;
         }
         Ok(())
+    }
+}
+
+/// Every fault alone, as a pair with itself, and every two.
+pub fn pairs(faults: &[Fault]) -> Vec<[Fault; 2]> {
+    let from = |(i, first): (usize, &Fault)| {
+        let first = *first;
+        faults[i..].iter().map(move |second| [first, *second])
+    };
+    faults.iter().enumerate().flat_map(from).collect()
+}
+
+/// The call's line.
+pub fn faulty_line(call: &str, has: impl Fn(Fault) -> bool) -> String {
+    let address = if has(Address) { 128 } else { 1 };
+    let endpoint = if has(Endpoint) { 16 } else { 1 };
+    let size = if has(Size) { 65 } else { 8 };
+    let length = if has(Length) { 65_536 } else { 1 };
+    let setup = "0009010000000000";
+    match call {
+        "control-in" => format!("{call} {address} 0 {size} {setup} 1"),
+        "control-out" => format!("{call} {address} 0 {size} {setup} 00"),
+        "control-none" => format!("{call} {address} 0 {size} {setup}"),
+        "bulk-in" => format!("{call} {address} {endpoint} {size} fixed 0 {length}"),
+        "bulk-out" => {
+            format!("{call} {address} {endpoint} {size} fixed 0 seq:{length}:0:1")
+        }
+        "step-in" | "step-out" => format!("{call} 0 0x10 0"),
+        "open" => format!("{call} {address} 0 {endpoint} {size} 1"),
+        "poll" => format!("{call} 1 0x8008 0x00010001"),
+        "close" => format!("{call} 1"),
+        "irq" => format!("{call} 0x11 4"),
+        "detect" => format!("{call} 0x100"),
+        _ => call.to_string(),
     }
 }

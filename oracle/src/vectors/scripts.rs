@@ -4,7 +4,7 @@
 use super::Vectors;
 use std::io::{self, Write};
 
-const SCRIPTS: [&str; 7] = [
+pub const REPLAY: [&str; 7] = [
     include_str!("../../tests/scripts/golden.script"),
     include_str!("../../tests/scripts/table.script"),
     include_str!("../../tests/scripts/control.script"),
@@ -16,9 +16,18 @@ const SCRIPTS: [&str; 7] = [
 
 pub const UNREADABLE: &str = include_str!("../../tests/scripts/unreadable.script");
 
+/// Those of the callers' format.
+pub const CALLERS: [&str; 2] = [
+    include_str!("../../tests/scripts/callers.script"),
+    CALLERS_UNREADABLE,
+];
+
+pub const CALLERS_UNREADABLE: &str =
+    include_str!("../../tests/scripts/callers-unreadable.script");
+
 impl<W: Write> Vectors<W> {
-    pub fn scripts(&mut self) -> io::Result<()> {
-        for script in SCRIPTS {
+    pub fn scripts(&mut self, scripts: &[&str]) -> io::Result<()> {
+        for script in scripts {
             self.line("fresh")?;
             let lines = script.trim_end_matches('\n').split('\n');
             lines.into_iter().try_for_each(|line| self.line(line))?;

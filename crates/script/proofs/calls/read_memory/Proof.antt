@@ -54,20 +54,20 @@ returns-3 c =
     let fields = c .before .before .before .before .before .before .before .before .before .fields in
     (simp (eq-eqb _ _ (sym (fields .ensures) ∙ if1), sym (length-at .ensures) ∙ f1 .given .1, sym (bytes-at .ensures .0) ∙ enum-told2 .given .1), simp (eq-eqb _ _ (sym (fields .ensures) ∙ if1), sym (length-at .ensures) ∙ f1 .given .1, sym (bytes-at .ensures .0) ∙ enum-told2 .given .1) (bytes-at .ensures .1))
 
-stored-command-requires : tie.Need-stored-command-requires
-stored-command-requires c κs = tt
+stored-call-requires : tie.Need-stored-call-requires
+stored-call-requires c κs = tt
 
 returns-4 : tie.Need-returns-4
 unfolding memoryOf
 returns-4 c =
-    let stored-command = c .stored-command in
+    let stored-call = c .stored-call in
     let f2 = c .before .before .f2 in
     let bytes-at = c .before .before .before .before .bytes-at in
     let f1 = c .before .before .before .before .before .before .before .f1 in
     let length-at = c .before .before .before .before .before .before .before .before .before .length-at in
     let if1 = c .before .before .before .before .before .before .before .before .before .before .if1 .left in
     let fields = c .before .before .before .before .before .before .before .before .before .before .before .fields in
-    (simp (eq-eqb _ _ (sym (fields .ensures) ∙ if1), sym (length-at .ensures) ∙ f1 .given .1, sym (bytes-at .ensures .0) ∙ f2 .given .1) (stored-command .ensures), simp (eq-eqb _ _ (sym (fields .ensures) ∙ if1), sym (length-at .ensures) ∙ f1 .given .1, sym (bytes-at .ensures .0) ∙ f2 .given .1) (bytes-at .ensures .1))
+    (simp (eq-eqb _ _ (sym (fields .ensures) ∙ if1), sym (length-at .ensures) ∙ f1 .given .1, sym (bytes-at .ensures .0) ∙ f2 .given .1) (stored-call .ensures), simp (eq-eqb _ _ (sym (fields .ensures) ∙ if1), sym (length-at .ensures) ∙ f1 .given .1, sym (bytes-at .ensures .0) ∙ f2 .given .1) (bytes-at .ensures .1))
 
 pub read-memory-spec : {M : Type 1} → statement M
 read-memory-spec =
@@ -83,5 +83,5 @@ read-memory-spec =
     enum-known-f2
     enum-told-2
     returns-3
-    stored-command-requires
+    stored-call-requires
     returns-4)

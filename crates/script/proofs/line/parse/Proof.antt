@@ -17,16 +17,16 @@ returns c =
 field-requires : tie.Need-field-requires
 field-requires c κs = tt
 
-read-call-requires : tie.Need-read-call-requires
-read-call-requires c κs = tt
+read-begin-requires : tie.Need-read-begin-requires
+read-begin-requires c κs = tt
 
 returns-2 : tie.Need-returns-2
 unfolding lineOf
 returns-2 c =
-    let read-call = c .read-call in
+    let read-begin = c .read-begin in
     let field = c .before .before .field in
     let skipped = sym (c .before .before .before .before .is-skipped .ensures) ∙ c .before .before .before .if1 .left in
-    (simp (skipped, ← (field .ensures)) (read-call .ensures .0), simp (skipped, ← (field .ensures)) (read-call .ensures .1))
+    (simp (skipped, ← (field .ensures)) (read-begin .ensures .0), simp (skipped, ← (field .ensures)) (read-begin .ensures .1))
 
 pub parse-spec : {M : Type 1} → statement M
-parse-spec = tie.close (tie.spec is-skipped-requires returns field-requires read-call-requires returns-2)
+parse-spec = tie.close (tie.spec is-skipped-requires returns field-requires read-begin-requires returns-2)

@@ -110,24 +110,24 @@ returns-5 c =
     let same = c .before .before .before .before .before .before .before .before .before .before .before .before .before .before .before .same in
     (simp (sym (same .ensures) ∙ if1, sym (same2 .ensures) ∙ if2, sym (same3 .ensures) ∙ if3, sym (same4 .ensures) ∙ if4, sym (same5 .ensures) ∙ if5) (read-bulk-out .ensures .0), simp (sym (same .ensures) ∙ if1, sym (same2 .ensures) ∙ if2, sym (same3 .ensures) ∙ if3, sym (same4 .ensures) ∙ if4, sym (same5 .ensures) ∙ if5) (read-bulk-out .ensures .1))
 
-read-alone-requires : tie.Need-read-alone-requires
-read-alone-requires c κs = tt
+read-call-requires : tie.Need-read-call-requires
+read-call-requires c κs = tt
 
 returns-6 : tie.Need-returns-6
 unfolding beginOf
 returns-6 c =
-    let read-alone = c .read-alone in
-    let if5 = c .before .if5 .left in
-    let same5 = c .before .before .same5 in
-    let if4 = c .before .before .before .before .if4 .left in
-    let same4 = c .before .before .before .before .before .same4 in
-    let if3 = c .before .before .before .before .before .before .before .if3 .left in
-    let same3 = c .before .before .before .before .before .before .before .before .same3 in
-    let if2 = c .before .before .before .before .before .before .before .before .before .before .if2 .left in
-    let same2 = c .before .before .before .before .before .before .before .before .before .before .before .same2 in
-    let if1 = c .before .before .before .before .before .before .before .before .before .before .before .before .before .if1 .left in
-    let same = c .before .before .before .before .before .before .before .before .before .before .before .before .before .before .same in
-    (simp (sym (same .ensures) ∙ if1, sym (same2 .ensures) ∙ if2, sym (same3 .ensures) ∙ if3, sym (same4 .ensures) ∙ if4, sym (same5 .ensures) ∙ if5) (read-alone .ensures), simp (sym (same .ensures) ∙ if1, sym (same2 .ensures) ∙ if2, sym (same3 .ensures) ∙ if3, sym (same4 .ensures) ∙ if4, sym (same5 .ensures) ∙ if5))
+    let read-call = c .read-call in
+    let if5 = c .before .before .if5 .left in
+    let same5 = c .before .before .before .same5 in
+    let if4 = c .before .before .before .before .before .if4 .left in
+    let same4 = c .before .before .before .before .before .before .same4 in
+    let if3 = c .before .before .before .before .before .before .before .before .if3 .left in
+    let same3 = c .before .before .before .before .before .before .before .before .before .same3 in
+    let if2 = c .before .before .before .before .before .before .before .before .before .before .before .if2 .left in
+    let same2 = c .before .before .before .before .before .before .before .before .before .before .before .before .same2 in
+    let if1 = c .before .before .before .before .before .before .before .before .before .before .before .before .before .before .if1 .left in
+    let same = c .before .before .before .before .before .before .before .before .before .before .before .before .before .before .before .same in
+    (simp (sym (same .ensures) ∙ if1, sym (same2 .ensures) ∙ if2, sym (same3 .ensures) ∙ if3, sym (same4 .ensures) ∙ if4, sym (same5 .ensures) ∙ if5, ← (read-call .ensures .0)), simp (sym (same .ensures) ∙ if1, sym (same2 .ensures) ∙ if2, sym (same3 .ensures) ∙ if3, sym (same4 .ensures) ∙ if4, sym (same5 .ensures) ∙ if5) (read-call .ensures .1))
 
 pub read-begin-spec : {M : Type 1} → statement M
 read-begin-spec =
@@ -153,5 +153,5 @@ read-begin-spec =
     same-requires-5
     read-bulk-out-requires
     returns-5
-    read-alone-requires
+    read-call-requires
     returns-6)

@@ -144,19 +144,19 @@ returns-7 : tie.Need-returns-7
 unfolding callOf
 returns-7 c =
     let read-pipe = c .read-pipe in
-    let if6 = c .before .before .if6 .left in
-    let same6 = c .before .before .before .same6 in
-    let if5 = c .before .before .before .before .before .if5 .left in
-    let same5 = c .before .before .before .before .before .before .same5 in
-    let if4 = c .before .before .before .before .before .before .before .before .if4 .left in
-    let same4 = c .before .before .before .before .before .before .before .before .before .same4 in
-    let if3 = c .before .before .before .before .before .before .before .before .before .before .before .if3 .left in
-    let same3 = c .before .before .before .before .before .before .before .before .before .before .before .before .same3 in
-    let if2 = c .before .before .before .before .before .before .before .before .before .before .before .before .before .before .if2 .left in
-    let same2 = c .before .before .before .before .before .before .before .before .before .before .before .before .before .before .before .same2 in
-    let if1 = c .before .before .before .before .before .before .before .before .before .before .before .before .before .before .before .before .before .if1 .left in
-    let same = c .before .before .before .before .before .before .before .before .before .before .before .before .before .before .before .before .before .before .same in
-    (simp (sym (same .ensures) ∙ if1, sym (same2 .ensures) ∙ if2, sym (same3 .ensures) ∙ if3, sym (same4 .ensures) ∙ if4, sym (same5 .ensures) ∙ if5, sym (same6 .ensures) ∙ if6) (read-pipe .ensures .0), simp (sym (same .ensures) ∙ if1, sym (same2 .ensures) ∙ if2, sym (same3 .ensures) ∙ if3, sym (same4 .ensures) ∙ if4, sym (same5 .ensures) ∙ if5, sym (same6 .ensures) ∙ if6) (read-pipe .ensures .1))
+    let if6 = c .before .if6 .left in
+    let same6 = c .before .before .same6 in
+    let if5 = c .before .before .before .before .if5 .left in
+    let same5 = c .before .before .before .before .before .same5 in
+    let if4 = c .before .before .before .before .before .before .before .if4 .left in
+    let same4 = c .before .before .before .before .before .before .before .before .same4 in
+    let if3 = c .before .before .before .before .before .before .before .before .before .before .if3 .left in
+    let same3 = c .before .before .before .before .before .before .before .before .before .before .before .same3 in
+    let if2 = c .before .before .before .before .before .before .before .before .before .before .before .before .before .if2 .left in
+    let same2 = c .before .before .before .before .before .before .before .before .before .before .before .before .before .before .same2 in
+    let if1 = c .before .before .before .before .before .before .before .before .before .before .before .before .before .before .before .before .if1 .left in
+    let same = c .before .before .before .before .before .before .before .before .before .before .before .before .before .before .before .before .before .same in
+    (simp (sym (same .ensures) ∙ if1, sym (same2 .ensures) ∙ if2, sym (same3 .ensures) ∙ if3, sym (same4 .ensures) ∙ if4, sym (same5 .ensures) ∙ if5, sym (same6 .ensures) ∙ if6) (read-pipe .ensures), simp (sym (same .ensures) ∙ if1, sym (same2 .ensures) ∙ if2, sym (same3 .ensures) ∙ if3, sym (same4 .ensures) ∙ if4, sym (same5 .ensures) ∙ if5, sym (same6 .ensures) ∙ if6))
 
 pub read-call-spec : {M : Type 1} → statement M
 read-call-spec =

@@ -20,7 +20,7 @@ returns c =
     let read-open = c .read-open in
     let if1 = c .before .if1 .taken in
     let same = c .before .before .same in
-    (simp (sym (same .ensures) ∙ if1) (read-open .ensures), simp (sym (same .ensures) ∙ if1))
+    simp (sym (same .ensures) ∙ if1) (read-open .ensures)
 
 slice-aggregate-same-2 : tie.Need-slice-aggregate-same-2
 slice-aggregate-same-2 c = refl
@@ -39,7 +39,7 @@ returns-2 c =
     let same2 = c .before .before .same2 in
     let if1 = c .before .before .before .before .if1 .left in
     let same = c .before .before .before .before .before .same in
-    (simp (sym (same .ensures) ∙ if1, sym (same2 .ensures) ∙ if2) (read-close .ensures), simp (sym (same .ensures) ∙ if1, sym (same2 .ensures) ∙ if2))
+    simp (sym (same .ensures) ∙ if1, sym (same2 .ensures) ∙ if2) (read-close .ensures)
 
 slice-aggregate-same-3 : tie.Need-slice-aggregate-same-3
 slice-aggregate-same-3 c = refl
@@ -60,7 +60,7 @@ returns-3 c =
     let same2 = c .before .before .before .before .before .same2 in
     let if1 = c .before .before .before .before .before .before .before .if1 .left in
     let same = c .before .before .before .before .before .before .before .before .same in
-    (simp (sym (same .ensures) ∙ if1, sym (same2 .ensures) ∙ if2, sym (same3 .ensures) ∙ if3) (read-poll .ensures), simp (sym (same .ensures) ∙ if1, sym (same2 .ensures) ∙ if2, sym (same3 .ensures) ∙ if3))
+    simp (sym (same .ensures) ∙ if1, sym (same2 .ensures) ∙ if2, sym (same3 .ensures) ∙ if3) (read-poll .ensures)
 
 slice-aggregate-same-4 : tie.Need-slice-aggregate-same-4
 slice-aggregate-same-4 c = refl
@@ -83,7 +83,7 @@ returns-4 c =
     let same2 = c .before .before .before .before .before .before .before .before .same2 in
     let if1 = c .before .before .before .before .before .before .before .before .before .before .if1 .left in
     let same = c .before .before .before .before .before .before .before .before .before .before .before .same in
-    (simp (sym (same .ensures) ∙ if1, sym (same2 .ensures) ∙ if2, sym (same3 .ensures) ∙ if3, sym (same4 .ensures) ∙ if4) (read-irq .ensures), simp (sym (same .ensures) ∙ if1, sym (same2 .ensures) ∙ if2, sym (same3 .ensures) ∙ if3, sym (same4 .ensures) ∙ if4))
+    simp (sym (same .ensures) ∙ if1, sym (same2 .ensures) ∙ if2, sym (same3 .ensures) ∙ if3, sym (same4 .ensures) ∙ if4) (read-irq .ensures)
 
 slice-aggregate-same-5 : tie.Need-slice-aggregate-same-5
 slice-aggregate-same-5 c = refl
@@ -108,26 +108,26 @@ returns-5 c =
     let same2 = c .before .before .before .before .before .before .before .before .before .before .before .same2 in
     let if1 = c .before .before .before .before .before .before .before .before .before .before .before .before .before .if1 .left in
     let same = c .before .before .before .before .before .before .before .before .before .before .before .before .before .before .same in
-    (simp (sym (same .ensures) ∙ if1, sym (same2 .ensures) ∙ if2, sym (same3 .ensures) ∙ if3, sym (same4 .ensures) ∙ if4, sym (same5 .ensures) ∙ if5) (read-detect .ensures), simp (sym (same .ensures) ∙ if1, sym (same2 .ensures) ∙ if2, sym (same3 .ensures) ∙ if3, sym (same4 .ensures) ∙ if4, sym (same5 .ensures) ∙ if5))
+    simp (sym (same .ensures) ∙ if1, sym (same2 .ensures) ∙ if2, sym (same3 .ensures) ∙ if3, sym (same4 .ensures) ∙ if4, sym (same5 .ensures) ∙ if5) (read-detect .ensures)
 
-read-begin-requires : tie.Need-read-begin-requires
-read-begin-requires c κs = tt
+read-alone-requires : tie.Need-read-alone-requires
+read-alone-requires c κs = tt
 
 returns-6 : tie.Need-returns-6
 unfolding pipeOf
 returns-6 c =
-    let read-begin = c .read-begin in
-    let if5 = c .before .before .if5 .left in
-    let same5 = c .before .before .before .same5 in
-    let if4 = c .before .before .before .before .before .if4 .left in
-    let same4 = c .before .before .before .before .before .before .same4 in
-    let if3 = c .before .before .before .before .before .before .before .before .if3 .left in
-    let same3 = c .before .before .before .before .before .before .before .before .before .same3 in
-    let if2 = c .before .before .before .before .before .before .before .before .before .before .before .if2 .left in
-    let same2 = c .before .before .before .before .before .before .before .before .before .before .before .before .same2 in
-    let if1 = c .before .before .before .before .before .before .before .before .before .before .before .before .before .before .if1 .left in
-    let same = c .before .before .before .before .before .before .before .before .before .before .before .before .before .before .before .same in
-    (simp (sym (same .ensures) ∙ if1, sym (same2 .ensures) ∙ if2, sym (same3 .ensures) ∙ if3, sym (same4 .ensures) ∙ if4, sym (same5 .ensures) ∙ if5) (read-begin .ensures .0), simp (sym (same .ensures) ∙ if1, sym (same2 .ensures) ∙ if2, sym (same3 .ensures) ∙ if3, sym (same4 .ensures) ∙ if4, sym (same5 .ensures) ∙ if5) (read-begin .ensures .1))
+    let read-alone = c .read-alone in
+    let if5 = c .before .if5 .left in
+    let same5 = c .before .before .same5 in
+    let if4 = c .before .before .before .before .if4 .left in
+    let same4 = c .before .before .before .before .before .same4 in
+    let if3 = c .before .before .before .before .before .before .before .if3 .left in
+    let same3 = c .before .before .before .before .before .before .before .before .same3 in
+    let if2 = c .before .before .before .before .before .before .before .before .before .before .if2 .left in
+    let same2 = c .before .before .before .before .before .before .before .before .before .before .before .same2 in
+    let if1 = c .before .before .before .before .before .before .before .before .before .before .before .before .before .if1 .left in
+    let same = c .before .before .before .before .before .before .before .before .before .before .before .before .before .before .same in
+    simp (sym (same .ensures) ∙ if1, sym (same2 .ensures) ∙ if2, sym (same3 .ensures) ∙ if3, sym (same4 .ensures) ∙ if4, sym (same5 .ensures) ∙ if5) (read-alone .ensures)
 
 pub read-pipe-spec : {M : Type 1} → statement M
 read-pipe-spec =
@@ -153,5 +153,5 @@ read-pipe-spec =
     same-requires-5
     read-detect-requires
     returns-5
-    read-begin-requires
+    read-alone-requires
     returns-6)

@@ -1,0 +1,4 @@
+pub mod Rounds
+pub mod Turning
+pub mod Passing
+pub mod Bound

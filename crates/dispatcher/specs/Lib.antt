@@ -1,0 +1,3 @@
+-- The root of the specification, in reading order.
+pub mod Dispatcher
+pub mod Events

@@ -1,0 +1,134 @@
+-- `HostController::start_bulk_in` is `startOf` of a bulk IN: four refusals, and the begin. Assumes nothing.
+use mathlib.Core.Path.{refl, sym, _∙_}
+use denote.Ref.{now}
+use borrow.Author.Tests.{eq-eqb, ne-eqb, not-true, not-false}
+use Rattle.host.specs.declared.fields.Fields.the-variants.{BulkIn}
+use Rattle.host.specs.Start.{bulkIn}
+use Rattle.host.proofs.Next.{not-bulk-in}
+use Rattle.host.proofs.Starting.{start-unlent, start-unready, start-other, start-long, start-did}
+use borrow.Author.Needs.{needs}
+use Rattle.host.proofs.controller.HostController.start_bulk_in.Statement.{statement}
+use Rattle.host.proofs.controller.HostController.start_bulk_in.Tie as tie
+
+lent-fits-requires : tie.Need-lent-fits-requires
+lent-fits-requires c κs = search needs
+
+refuse-start-requires : tie.Need-refuse-start-requires
+refuse-start-requires c κs = search needs
+
+same-length : tie.Need-same-length
+same-length c = search needs
+
+returns : tie.Need-returns
+returns c =
+    let lent-fits = c .before .before .lent-fits in
+    let args = c .before .before .before .before .before .before .before .args in
+    start-unlent (args .self) bulkIn (now (args .buf)) (now (args .pm)) (now (args .log)) _ (sym (lent-fits .ensures) ∙ not-true (lent-fits .result) (c .before .if1 .taken)) (c .refuse-start .ensures)
+
+next-start-requires : tie.Need-next-start-requires
+next-start-requires c κs = search needs
+
+enum-known-next : tie.Need-enum-known-next
+enum-known-next c = search needs
+
+enum-told : tie.Need-enum-told
+enum-told c = search needs
+
+refuse-start-requires-2 : tie.Need-refuse-start-requires-2
+refuse-start-requires-2 c κs = search needs
+
+same-length-2 : tie.Need-same-length-2
+same-length-2 c = search needs
+
+returns-2 : tie.Need-returns-2
+returns-2 c =
+    let next-start = c .before .before .before .next-start in
+    let lent-fits = c .before .before .before .before .before .lent-fits in
+    let if1 = c .before .before .before .before .if1 .left in
+    let args = c .before .before .before .before .before .before .before .before .before .before .args in
+    let fits = sym (lent-fits .ensures) ∙ not-false (lent-fits .result) if1 in
+    start-unready (args .self) bulkIn (now (args .buf)) (now (args .pm)) (now (args .log)) (next-start .result) _ fits (next-start .ensures) (c .before .enum-told .given .1) (c .refuse-start2 .ensures)
+
+enum-known-x : tie.Need-enum-known-x
+enum-known-x c = search needs
+
+refuse-start-requires-3 : tie.Need-refuse-start-requires-3
+refuse-start-requires-3 c κs = search needs
+
+same-length-3 : tie.Need-same-length-3
+same-length-3 c = search needs
+
+returns-3 : tie.Need-returns-3
+returns-3 c =
+    let next-start = c .before .before .before .before .before .next-start in
+    let lent-fits = c .before .before .before .before .before .before .before .lent-fits in
+    let if1 = c .before .before .before .before .before .before .if1 .left in
+    let args = c .before .before .before .before .before .before .before .before .before .before .before .before .args in
+    let fits = sym (lent-fits .ensures) ∙ not-false (lent-fits .result) if1 in
+    let next = c .before .before .before .next in
+    let n = next .given .0 .0 in
+    start-other (args .self) bulkIn (now (args .buf)) (now (args .pm)) (now (args .log)) (next-start .result) n (n .fields) _ fits (next-start .ensures) (next .given .1) refl (not-bulk-in (n .fields) (c .before .match2 .keys2)) (c .refuse-start3 .ensures)
+
+refuse-start-requires-4 : tie.Need-refuse-start-requires-4
+refuse-start-requires-4 c κs = search needs
+
+same-length-4 : tie.Need-same-length-4
+same-length-4 c = search needs
+
+returns-4 : tie.Need-returns-4
+returns-4 c =
+    let next-start = c .before .before .before .before .before .before .before .before .before .next-start in
+    let lent-fits = c .before .before .before .before .before .before .before .before .before .before .before .lent-fits in
+    let if1 = c .before .before .before .before .before .before .before .before .before .before .if1 .left in
+    let args = c .before .before .before .before .before .before .before .before .before .before .before .before .before .before .before .before .args in
+    let fits = sym (lent-fits .ensures) ∙ not-false (lent-fits .result) if1 in
+    let next = c .before .before .before .before .before .before .before .next in
+    let x = c .before .before .before .before .x in
+    start-long (args .self) bulkIn (now (args .buf)) (now (args .pm)) (now (args .log)) (next-start .result) (next .given .0 .0) (BulkIn (x .given .0 .0)) _ fits (next-start .ensures) (next .given .1) (x .given .1) refl (ne-eqb _ _ (c .before .if2 .taken)) (c .refuse-start4 .ensures)
+
+begin-bulk-in-requires : tie.Need-begin-bulk-in-requires
+begin-bulk-in-requires c κs = search needs
+
+started-requires : tie.Need-started-requires
+started-requires c κs = search needs
+
+same-length-5 : tie.Need-same-length-5
+same-length-5 c = search needs
+
+returns-5 : tie.Need-returns-5
+returns-5 c =
+    let next-start = c .before .before .before .before .before .before .before .before .before .before .before .before .before .before .next-start in
+    let lent-fits = c .before .before .before .before .before .before .before .before .before .before .before .before .before .before .before .before .lent-fits in
+    let if1 = c .before .before .before .before .before .before .before .before .before .before .before .before .before .before .before .if1 .left in
+    let args = c .before .before .before .before .before .before .before .before .before .before .before .before .before .before .before .before .before .before .before .before .before .args in
+    let fits = sym (lent-fits .ensures) ∙ not-false (lent-fits .result) if1 in
+    let next = c .before .before .before .before .before .before .before .before .before .before .before .before .next in
+    let x = c .before .before .before .before .before .before .before .before .before .x in
+    let begin = c .before .before .before .begin-bulk-in in
+    start-did (args .self) bulkIn (now (args .buf)) (now (args .pm)) (now (args .log)) (next-start .result) (next .given .0 .0) (BulkIn (x .given .0 .0)) (begin .result) _ _ _ fits (next-start .ensures) (next .given .1) (x .given .1) refl (eq-eqb _ _ (c .before .before .before .before .before .before .if2 .left)) (begin .ensures .0) (c .started .ensures)
+
+pub start-bulk-in-spec : {M : Type 1} → statement M
+start-bulk-in-spec =
+    tie.close
+    (tie.spec
+    lent-fits-requires
+    refuse-start-requires
+    same-length
+    returns
+    next-start-requires
+    enum-known-next
+    enum-told
+    refuse-start-requires-2
+    same-length-2
+    returns-2
+    enum-known-x
+    refuse-start-requires-3
+    same-length-3
+    returns-3
+    refuse-start-requires-4
+    same-length-4
+    returns-4
+    begin-bulk-in-requires
+    started-requires
+    same-length-5
+    returns-5)

@@ -1,0 +1,154 @@
+-- `HostController::start_bulk_out` is `startOf` of a bulk OUT: four refusals, and the begin. Assumes nothing.
+use mathlib.Core.Path.{refl, sym, _∙_}
+use denote.Ref.{now}
+use borrow.Author.Tests.{eq-eqb, ne-eqb, not-true, not-false}
+use Rattle.host.specs.declared.fields.Fields.the-variants.{BulkOut}
+use Rattle.host.specs.Start.{bulkOut}
+use Rattle.host.proofs.Next.{not-bulk-out}
+use Rattle.host.proofs.Starting.{start-unlent, start-unready, start-other, start-long, start-did}
+use borrow.Author.Needs.{needs}
+use Rattle.host.proofs.controller.HostController.start_bulk_out.Statement.{statement}
+use Rattle.host.proofs.controller.HostController.start_bulk_out.Tie as tie
+
+lent-fits-requires : tie.Need-lent-fits-requires
+lent-fits-requires c κs = search needs
+
+refuse-start-requires : tie.Need-refuse-start-requires
+refuse-start-requires c κs = search needs
+
+same-length : tie.Need-same-length
+same-length c = search needs
+
+same-length-2 : tie.Need-same-length-2
+same-length-2 c = search needs
+
+returns : tie.Need-returns
+returns c =
+    let lent-fits = c .before .before .lent-fits in
+    let args = c .before .before .before .before .before .before .before .before .args in
+    start-unlent (args .self) bulkOut (now (args .buf)) (now (args .pm)) (now (args .log)) _ (sym (lent-fits .ensures) ∙ not-true (lent-fits .result) (c .before .if1 .taken)) (c .refuse-start .ensures)
+
+next-start-requires : tie.Need-next-start-requires
+next-start-requires c κs = search needs
+
+enum-known-next : tie.Need-enum-known-next
+enum-known-next c = search needs
+
+enum-told : tie.Need-enum-told
+enum-told c = search needs
+
+refuse-start-requires-2 : tie.Need-refuse-start-requires-2
+refuse-start-requires-2 c κs = search needs
+
+same-length-3 : tie.Need-same-length-3
+same-length-3 c = search needs
+
+same-length-4 : tie.Need-same-length-4
+same-length-4 c = search needs
+
+returns-2 : tie.Need-returns-2
+returns-2 c =
+    let next-start = c .before .before .before .next-start in
+    let lent-fits = c .before .before .before .before .before .lent-fits in
+    let if1 = c .before .before .before .before .if1 .left in
+    let args = c .before .before .before .before .before .before .before .before .before .before .before .args in
+    let fits = sym (lent-fits .ensures) ∙ not-false (lent-fits .result) if1 in
+    start-unready (args .self) bulkOut (now (args .buf)) (now (args .pm)) (now (args .log)) (next-start .result) _ fits (next-start .ensures) (c .before .enum-told .given .1) (c .refuse-start2 .ensures)
+
+enum-known-x : tie.Need-enum-known-x
+enum-known-x c = search needs
+
+refuse-start-requires-3 : tie.Need-refuse-start-requires-3
+refuse-start-requires-3 c κs = search needs
+
+same-length-5 : tie.Need-same-length-5
+same-length-5 c = search needs
+
+same-length-6 : tie.Need-same-length-6
+same-length-6 c = search needs
+
+returns-3 : tie.Need-returns-3
+returns-3 c =
+    let next-start = c .before .before .before .before .before .next-start in
+    let lent-fits = c .before .before .before .before .before .before .before .lent-fits in
+    let if1 = c .before .before .before .before .before .before .if1 .left in
+    let args = c .before .before .before .before .before .before .before .before .before .before .before .before .before .args in
+    let fits = sym (lent-fits .ensures) ∙ not-false (lent-fits .result) if1 in
+    let next = c .before .before .before .next in
+    let n = next .given .0 .0 in
+    start-other (args .self) bulkOut (now (args .buf)) (now (args .pm)) (now (args .log)) (next-start .result) n (n .fields) _ fits (next-start .ensures) (next .given .1) refl (not-bulk-out (n .fields) (c .before .match2 .keys2)) (c .refuse-start3 .ensures)
+
+refuse-start-requires-4 : tie.Need-refuse-start-requires-4
+refuse-start-requires-4 c κs = search needs
+
+same-length-7 : tie.Need-same-length-7
+same-length-7 c = search needs
+
+same-length-8 : tie.Need-same-length-8
+same-length-8 c = search needs
+
+returns-4 : tie.Need-returns-4
+returns-4 c =
+    let next-start = c .before .before .before .before .before .before .before .before .before .next-start in
+    let lent-fits = c .before .before .before .before .before .before .before .before .before .before .before .lent-fits in
+    let if1 = c .before .before .before .before .before .before .before .before .before .before .if1 .left in
+    let args = c .before .before .before .before .before .before .before .before .before .before .before .before .before .before .before .before .before .args in
+    let fits = sym (lent-fits .ensures) ∙ not-false (lent-fits .result) if1 in
+    let next = c .before .before .before .before .before .before .before .next in
+    let x = c .before .before .before .before .x in
+    start-long (args .self) bulkOut (now (args .buf)) (now (args .pm)) (now (args .log)) (next-start .result) (next .given .0 .0) (BulkOut (x .given .0 .0)) _ fits (next-start .ensures) (next .given .1) (x .given .1) refl (ne-eqb _ _ (c .before .if2 .taken)) (c .refuse-start4 .ensures)
+
+begin-bulk-out-requires : tie.Need-begin-bulk-out-requires
+begin-bulk-out-requires c κs = search needs
+
+started-requires : tie.Need-started-requires
+started-requires c κs = search needs
+
+same-length-9 : tie.Need-same-length-9
+same-length-9 c = search needs
+
+same-length-10 : tie.Need-same-length-10
+same-length-10 c = search needs
+
+returns-5 : tie.Need-returns-5
+returns-5 c =
+    let next-start = c .before .before .before .before .before .before .before .before .before .before .before .before .before .before .before .before .before .next-start in
+    let lent-fits = c .before .before .before .before .before .before .before .before .before .before .before .before .before .before .before .before .before .before .before .lent-fits in
+    let if1 = c .before .before .before .before .before .before .before .before .before .before .before .before .before .before .before .before .before .before .if1 .left in
+    let args = c .before .before .before .before .before .before .before .before .before .before .before .before .before .before .before .before .before .before .before .before .before .before .before .before .before .args in
+    let fits = sym (lent-fits .ensures) ∙ not-false (lent-fits .result) if1 in
+    let next = c .before .before .before .before .before .before .before .before .before .before .before .before .before .before .before .next in
+    let x = c .before .before .before .before .before .before .before .before .before .before .before .before .x in
+    let begin = c .before .before .before .before .before .begin-bulk-out in
+    start-did (args .self) bulkOut (now (args .buf)) (now (args .pm)) (now (args .log)) (next-start .result) (next .given .0 .0) (BulkOut (x .given .0 .0)) (begin .result) _ _ _ fits (next-start .ensures) (next .given .1) (x .given .1) refl (eq-eqb _ _ (c .before .before .before .before .before .before .before .before .before .if2 .left)) (begin .ensures .0) (c .started .ensures)
+
+pub start-bulk-out-spec : {M : Type 1} → statement M
+start-bulk-out-spec =
+    tie.close
+    (tie.spec
+    lent-fits-requires
+    refuse-start-requires
+    same-length
+    same-length-2
+    returns
+    next-start-requires
+    enum-known-next
+    enum-told
+    refuse-start-requires-2
+    same-length-3
+    same-length-4
+    returns-2
+    enum-known-x
+    refuse-start-requires-3
+    same-length-5
+    same-length-6
+    returns-3
+    refuse-start-requires-4
+    same-length-7
+    same-length-8
+    returns-4
+    begin-bulk-out-requires
+    started-requires
+    same-length-9
+    same-length-10
+    returns-5)

@@ -1,0 +1,46 @@
+-- "Up to eight lists share one control pipe.": the driver, the turns, and what each caller came with.
+use mathlib.Core.Bool.{Bool}
+use Prim.Native.Nat.{ℕ}
+use lib.ListN.{set, getD, replicate}
+use Rattle.transfers.specs.declared.driver.DeskRule.{DeskRule}
+use Rattle.transfers.specs.declared.driver.Driver.{Driver}
+use Rattle.transfers.specs.Calls.{isIdle}
+use Rattle.transfers.specs.Driver as D
+use Rattle.dispatcher.specs.declared.Dispatcher.{Dispatcher}
+use Rattle.dispatcher.specs.Dispatcher as T
+use Rattle.dispatcher.specs.Dispatcher.{current, whose}
+use Rattle.host.specs.declared.fields.Fields.{Fields}
+use Rattle.host.specs.declared.controller.HostController.{HostController}
+use Rattle.host.specs.Fields.{noFields}
+
+-- A fresh driver, and nobody came.
+abbrev pub freshHost : DeskRule → HostController
+freshHost rule = record { driver = D.fresh rule; dispatcher = T.fresh; submissions = replicate 8 (record { fields = noFields }) }
+
+-- No transfer is under way.
+abbrev pub idle : HostController → Bool
+idle d = isIdle (d .driver .transfer)
+
+-- The turns as of now: "When a transfer ends, by cancel too, the turn passes". Steps and cancels don't write it down; the next coming, look or start does.
+abbrev pub dispatcherNow : HostController → Dispatcher
+dispatcherNow d = current (idle d) (d .dispatcher)
+
+-- "whose turn it is, nobody's while a transfer is under way"
+abbrev pub turnOf : HostController → ℕ
+turnOf d = whose (idle d) (dispatcherNow d)
+
+-- What caller c came with last.
+abbrev pub fieldsAt : HostController → ℕ → Fields
+fieldsAt d c = getD (d .submissions) c (record { fields = noFields }) .fields
+
+-- Caller c comes with these.
+abbrev pub withFields : HostController → ℕ → Fields → HostController
+withFields d c x = record { driver = d .driver; dispatcher = d .dispatcher; submissions = set (d .submissions) c (record { fields = x }) }
+
+-- Other turns.
+abbrev pub withDispatcher : HostController → Dispatcher → HostController
+withDispatcher d t = record { driver = d .driver; dispatcher = t; submissions = d .submissions }
+
+-- Step, cancel, open, close, poll and detection are the driver's calls, and change nothing else.
+abbrev pub withDriver : HostController → Driver → HostController
+withDriver d e = record { driver = e; dispatcher = d .dispatcher; submissions = d .submissions }

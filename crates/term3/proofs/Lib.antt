@@ -1,0 +1,10 @@
+pub mod Ends
+pub mod Fair
+pub mod Agreeing
+pub mod Table
+pub mod Shadow
+pub mod Lifting
+pub mod Turns
+pub mod Driven
+pub mod Term3
+pub mod Tied

@@ -1,0 +1,126 @@
+-- Every coming, look and start answers its row. Assumes nothing.
+use mathlib.Core.Path.{_≡_, refl, sym, ap, ap₂, _∙_}
+use mathlib.Core.Bool.{Bool, true, false, cond, not, _&&_}
+use mathlib.Core.List.{List, [], _∷_}
+use Prim.Native.Nat.{ℕ}
+use lib.ListN.{length}
+use lib.Dec.{eqb, leb}
+use Rattle.transfers.specs.declared.wire.Direction.the-variants.{In, Out}
+use Rattle.transfers.specs.declared.driver.DeskRule.{DeskRule}
+use Rattle.transfers.specs.Reply.{Reply, result, number}
+use Rattle.transfers.specs.Rows.{unless}
+use Rattle.dispatcher.specs.Dispatcher.{pendingAt}
+use Rattle.dispatcher.proofs.Rounds.{below}
+use Rattle.host.specs.declared.fields.Fields.{Fields}
+use Rattle.host.specs.declared.controller.HostController.{HostController}
+use Rattle.host.specs.Fields.{lengthOf}
+use Rattle.host.specs.Reply.{caller, nobodys, submitReply, turnReply, startReply}
+use Rattle.host.specs.Controller.{freshHost, idle, dispatcherNow, turnOf, fieldsAt}
+use Rattle.host.specs.Submit.{submitOf}
+use Rattle.host.specs.Start.{StartKind, ofKind, startOf}
+use Rattle.host.specs.Rows as H
+use Rattle.host.proofs.Replies.{submit-row, turn-row, start-row}
+use Rattle.record.specs.Calls.{Begin, controlBegin, bulkBegin}
+use Rattle.record.specs.Table.{fieldsRow}
+use Rattle.term3.specs.Calls.{Call, submit, whoseTurn, start, driver, fieldsOf, call}
+use Rattle.term3.specs.Callers.{Coming, Callers, noCallers, whose, hears}
+use Rattle.term3.specs.Table.{comingRow, turnRow, isResult, startRow, Row, TableFrom}
+use Rattle.term3.proofs.Agreeing.{Agrees, agrees-next, fresh-agrees}
+
+-- ---- a coming
+
+fields-same : (x : Begin) (n : ℕ) → H.fieldsRow (fieldsOf x n) ≡ fieldsRow x n
+fields-same (controlBegin a x p s ph) n = refl
+fields-same (bulkBegin In a e p k b) n = refl
+fields-same (bulkBegin Out a e p k b) n = refl
+
+submit-told : (t : Callers) (d : HostController) (c : ℕ) (x : Begin) (n : ℕ) → Agrees t d → submitReply (submitOf d c (fieldsOf x n) .answer) ≡ comingRow t c x n
+submit-told t d c x n h = submit-row d c (fieldsOf x n) ∙ ap (λ (r : Reply (Unit {0})). unless (leb c 7) 32 (unless (not (pendingAt (d .dispatcher) c)) 33 r)) (fields-same x n) ∙ go (leb c 7) refl
+  where
+    go : (a : Bool) → leb c 7 ≡ a → unless a 32 (unless (not (pendingAt (d .dispatcher) c)) 33 (fieldsRow x n)) ≡ unless a 32 (unless (not (t .waits c)) 33 (fieldsRow x n))
+    go false e = refl
+    go true e = ap (λ (w : Bool). unless (not w) 33 (fieldsRow x n)) (sym (h .waits c (below c e)))
+
+-- ---- a look
+
+-- What was told is whose turn it is.
+pub whose-is : (t : Callers) (d : HostController) → Agrees t d → whose t ≡ turnOf d
+whose-is t d h = ap₂ (λ (b : Bool) (c : ℕ). cond b 8 c) (h .busy) (h .turn) ∙ go (idle d)
+  where
+    go : (i : Bool) → cond (not i) 8 (dispatcherNow d .turn) ≡ cond i (dispatcherNow d .turn) 8
+    go true = refl
+    go false = refl
+
+look-row : (i : Bool) (c : ℕ) → cond (i && leb c 7) (caller c) nobodys ≡ (let e = cond i c 8 in cond (leb e 7) (caller e) nobodys)
+look-row true c = refl
+look-row false c = refl
+
+look-told : (t : Callers) (d : HostController) → Agrees t d → turnReply (call d whoseTurn .answer) ≡ turnRow t
+unfolding call
+look-told t d h = turn-row d ∙ ap result (look-row (idle d) (dispatcherNow d .turn)) ∙ ap (λ (e : ℕ). result (cond (leb e 7) (caller e) nobodys)) (sym (whose-is t d h))
+
+-- ---- a start
+
+taken-same : (r : Reply (Unit {0})) → H.isTaken r ≡ isResult r
+taken-same (result x) = refl
+taken-same (number n) = refl
+
+length-same : (x : Begin) (n : ℕ) → lengthOf (fieldsOf x n) ≡ n
+length-same (controlBegin a x p s ph) n = refl
+length-same (bulkBegin In a e p k b) n = refl
+length-same (bulkBegin Out a e p k b) n = refl
+
+-- The tests of a turn that somebody has, as one.
+tests : (k f s : Bool) (c : ℕ) → unless k 16 (unless f 16 (unless s 15 (result c))) ≡ unless (k && f) 16 (unless s 15 (result c))
+tests true f s c = refl
+tests false f s c = refl
+
+start-told : (t : Callers) (d : HostController) (k : StartKind) (buf m log : List ℕ) → Agrees t d → startReply (startOf d k buf m log .answer) ≡ startRow t k buf m log
+start-told t d k buf m log h =
+    start-row d k buf m log
+    ∙ ap (λ (r : Reply ℕ). unless (eqb (length m) 4096 && leb 192 (length log)) 15 r) (go (idle d) (leb (dispatcherNow d .turn) 7) refl refl ∙ ap told (sym (whose-is t d h)))
+  where
+    told : ℕ → Reply ℕ
+    told c = let x = t .came c in unless (leb c 7 && (ofKind k (fieldsOf (x .fields) (x .length)) && isResult (fieldsRow (x .fields) (x .length)))) 16 (unless (eqb (length buf) (x .length)) 15 (result c))
+
+    here : ℕ → Bool → Reply ℕ
+    here c w = let x = fieldsAt d c in unless (leb c 7 && w) 16 (unless (ofKind k x) 16 (unless (H.isTaken (H.fieldsRow x)) 16 (unless (eqb (length buf) (lengthOf x)) 15 (result c))))
+
+    alike : (c : ℕ) (y : Coming) (x : Fields) → fieldsOf (y .fields) (y .length) ≡ x
+        → unless (ofKind k x) 16 (unless (H.isTaken (H.fieldsRow x)) 16 (unless (eqb (length buf) (lengthOf x)) 15 (result c)))
+        ≡ unless (ofKind k (fieldsOf (y .fields) (y .length)) && isResult (fieldsRow (y .fields) (y .length))) 16 (unless (eqb (length buf) (y .length)) 15 (result c))
+    alike c y x e =
+        ap (λ (z : Fields). unless (ofKind k z) 16 (unless (H.isTaken (H.fieldsRow z)) 16 (unless (eqb (length buf) (lengthOf z)) 15 (result c)))) (sym e)
+        ∙ ap₂ (λ (f : Bool) (n : ℕ). unless (ofKind k (fieldsOf (y .fields) (y .length))) 16 (unless f 16 (unless (eqb (length buf) n) 15 (result c))))
+        (taken-same (H.fieldsRow (fieldsOf (y .fields) (y .length))) ∙ ap isResult (fields-same (y .fields) (y .length))) (length-same (y .fields) (y .length))
+        ∙ tests (ofKind k (fieldsOf (y .fields) (y .length))) (isResult (fieldsRow (y .fields) (y .length))) (eqb (length buf) (y .length)) c
+
+    go : (i b : Bool) → idle d ≡ i → leb (dispatcherNow d .turn) 7 ≡ b → let c = dispatcherNow d .turn in unless i 16 (here c (pendingAt (d .dispatcher) c)) ≡ told (cond i c 8)
+    go false b p q = refl
+    go true false p q =
+        let c = dispatcherNow d .turn in
+        ap (λ (v : Bool). unless (v && pendingAt (d .dispatcher) c) 16 (unless (ofKind k (fieldsAt d c)) 16 (unless (H.isTaken (H.fieldsRow (fieldsAt d c))) 16 (unless (eqb (length buf) (lengthOf (fieldsAt d c))) 15 (result c))))) q
+        ∙ ap (λ (v : Bool). unless (v && (ofKind k (fieldsOf (t .came c .fields) (t .came c .length)) && isResult (fieldsRow (t .came c .fields) (t .came c .length)))) 16 (unless (eqb (length buf) (t .came c .length)) 15 (result c))) (sym q)
+    go true true p q =
+        let c = dispatcherNow d .turn in
+        let w = h .good .pre .held p (below c q) in
+        ap₂ (λ (v u : Bool). unless (v && u) 16 (unless (ofKind k (fieldsAt d c)) 16 (unless (H.isTaken (H.fieldsRow (fieldsAt d c))) 16 (unless (eqb (length buf) (lengthOf (fieldsAt d c))) 15 (result c))))) q w
+        ∙ alike c (t .came c) (fieldsAt d c) (h .came c (below c q) (h .waits c (below c q) ∙ w))
+        ∙ ap (λ (v : Bool). unless (v && (ofKind k (fieldsOf (t .came c .fields) (t .came c .length)) && isResult (fieldsRow (t .came c .fields) (t .came c .length)))) 16 (unless (eqb (length buf) (t .came c .length)) 15 (result c))) (sym q)
+
+-- ---- every call and every list
+
+pub row-told : (t : Callers) (d : HostController) (c : Call) → Agrees t d → Row t c (call d c .answer)
+unfolding call
+row-told t d (submit c x n) h = submit-told t d c x n h
+row-told t d whoseTurn h = look-told t d h
+row-told t d (start k buf m log) h = start-told t d k buf m log h
+row-told t d (driver c b) h = tt
+
+table-from : (cs : List Call) (t : Callers) (d : HostController) → Agrees t d → TableFrom t d cs
+unfolding TableFrom
+table-from [] t d h = tt
+table-from (c ∷ cs) t d h = (row-told t d c h, table-from cs (hears t c (call d c .answer)) (call d c .next) (agrees-next t d c h))
+
+pub table : (rule : DeskRule) (cs : List Call) → TableFrom noCallers (freshHost rule) cs
+table rule cs = table-from cs noCallers (freshHost rule) (fresh-agrees rule)

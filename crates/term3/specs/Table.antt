@@ -1,0 +1,50 @@
+-- What a coming, a look and a start answer, in document 02's numbers and its order of checks, by what the calls so far tell.
+use mathlib.Core.Path.{_≡_}
+use mathlib.Core.Bool.{Bool, true, false, cond, not, _&&_}
+use mathlib.Core.List.{List, [], _∷_}
+use Prim.Native.Nat.{ℕ}
+use lib.ListN.{length}
+use lib.Dec.{eqb, leb}
+use Rattle.transfers.specs.Reply.{Reply, result, number}
+use Rattle.transfers.specs.Rows.{unless}
+use Rattle.host.specs.declared.controller.HostController.{HostController}
+use Rattle.host.specs.Reply.{submitReply, Whose, caller, nobodys, turnReply, startReply}
+use Rattle.host.specs.Start.{StartKind, ofKind}
+use Rattle.record.specs.Calls.{Begin}
+use Rattle.record.specs.Table.{fieldsRow}
+use Rattle.term3.specs.Calls.{Call, submit, whoseTurn, start, driver, Answer, fieldsOf, call}
+use Rattle.term3.specs.Callers.{Callers, whose, hears}
+
+-- "A coming refuses with 32 a caller above 7, then with 33 a caller that already waits, then as begin does, save that 8 no longer occurs."
+abbrev pub comingRow : Callers → ℕ → Begin → ℕ → Reply (Unit {0})
+comingRow t c x n = unless (leb c 7) 32 (unless (not (t .waits c)) 33 (fieldsRow x n))
+
+-- "A look, never refused, answers whose turn it is"
+abbrev pub turnRow : Callers → Reply Whose
+turnRow t = let c = whose t in result (cond (leb c 7) (caller c) nobodys)
+
+-- No number.
+abbrev pub isResult : {A : Type 0} → Reply A → Bool
+isResult (result a) = true
+isResult (number n) = false
+
+-- A start answers the caller whose transfer it is. Before its own checks 15 for what is lent; "It is refused with 16 if a transfer is under way, if nobody has the turn
+-- or if that caller's transfer isn't of this call's kind or has fields a coming refuses, then with 15 if the buffer's length isn't the one it came with."
+abbrev pub startRow : Callers → StartKind → List ℕ → List ℕ → List ℕ → Reply ℕ
+startRow t k buf m log =
+    let c = whose t in
+    let x = t .came c in
+    unless (eqb (length m) 4096 && leb 192 (length log)) 15
+    (unless (leb c 7 && (ofKind k (fieldsOf (x .fields) (x .length)) && isResult (fieldsRow (x .fields) (x .length)))) 16 (unless (eqb (length buf) (x .length)) 15 (result c)))
+
+-- A call answers what its row says.
+abbrev pub Row : Callers → (c : Call) → Answer c → Type 0
+Row t (submit c x n) a = submitReply a ≡ comingRow t c x n
+Row t whoseTurn a = turnReply a ≡ turnRow t
+Row t (start k buf m log) a = startReply a ≡ startRow t k buf m log
+Row t (driver c e) a = Unit {0}
+
+-- Along a list of calls.
+unfoldable pub TableFrom : Callers → HostController → List Call → Type 0
+TableFrom t d [] = Unit {0}
+TableFrom t d (c ∷ cs) = let o = call d c in Row t c (o .answer) × TableFrom (hears t c (o .answer)) (o .next) cs

@@ -1,0 +1,26 @@
+-- `call` says what the functions do: whatever meets a function's contract is what `call` says of it.
+use mathlib.Core.Path.{_≡_}
+use mathlib.Core.Bool.{false}
+use mathlib.Core.List.{List}
+use Prim.Native.Nat.{ℕ}
+use lib.ListN.{length}
+use Rattle.transfers.specs.Log.{logged}
+use Rattle.host.specs.declared.controller.HostController.{HostController}
+use Rattle.host.specs.declared.controller.SubmitResult.{SubmitResult}
+use Rattle.host.specs.declared.controller.TurnResult.{TurnResult}
+use Rattle.host.specs.declared.start.StartResult.{StartResult}
+use Rattle.host.specs.Submit.{submitOf}
+use Rattle.host.specs.Turn.{whoseTurnOf}
+use Rattle.host.specs.Start.{StartKind, startOf, DidStart}
+use Rattle.record.specs.Calls.{Begin}
+use Rattle.record.specs.Calls as D
+use Rattle.term3.specs.Calls.{isBegin, submit, whoseTurn, start, driver, fieldsOf, call}
+
+-- A coming, a look and a start; and that the driver's calls, which `Ties` of record ties, change the driver alone.
+pub record Ties : Type 0 where
+  pub submits : (d : HostController) (c : ℕ) (x : Begin) (n : ℕ) (r : SubmitResult) → r ≡ submitOf d c (fieldsOf x n) → let o = call d (submit c x n) in (r .next ≡ o .next) × (r .answer ≡ o .answer)
+  pub looks : (d : HostController) (r : TurnResult) → r ≡ whoseTurnOf d → let o = call d whoseTurn in (r .next ≡ o .next) × (r .answer ≡ o .answer)
+  pub starts : (d : HostController) (k : StartKind) (buf m log : List ℕ) (r : StartResult) (m′ l′ : List ℕ) → DidStart (startOf d k buf m log) log r m′ l′ → let o = call d (start k buf m log) in
+      (r .next ≡ o .next) × (r .answer ≡ o .answer) × (r .armed ≡ o .armed) × (r .writes ≡ length (o .writes)) × (m′ ≡ o .memory) × (l′ ≡ logged log 0 (o .writes))
+  pub drives : (d : HostController) (c : D.Call) (b : isBegin c ≡ false) → let o = call d (driver c b) in let e = D.call (d .driver) c in
+      (o .next .driver ≡ e .next) × (o .next .dispatcher ≡ d .dispatcher) × (o .next .submissions ≡ d .submissions) × (o .answer ≡ e .answer)
