@@ -26,7 +26,7 @@ use Rattle.host.specs.declared.controller.HostController.{HostController}
 use Rattle.host.specs.Fields.{fieldsRefused}
 use Rattle.host.specs.Reply.{startReply}
 use Rattle.host.specs.Submit.{submitAnswer, submitOf}
-use Rattle.host.specs.Start.{StartKind, control, bulkIn, bulkOut, ofKind}
+use Rattle.host.specs.Start.{StartKind, control, bulkIn, bulkOut}
 use Rattle.record.specs.Calls.{Begin, controlBegin, bulkBegin, begin, step, cancel, openPipe, closePipe, pollPipe, interrupt, detect, beginning}
 use Rattle.record.specs.Calls as D
 use Rattle.record.specs.Asked as Asked
@@ -35,7 +35,7 @@ use Rattle.record.specs.Shown.{note}
 use Rattle.record.specs.Table.{fieldsRow}
 use Rattle.term3.specs.Calls.{isBegin, Call, submit, start, driver, fieldsOf, call}
 use Rattle.term3.specs.Callers.{Callers, put, comes, starts, ends, whose, isEnd, hears}
-use Rattle.term3.specs.Table.{isResult, Row}
+use Rattle.term3.specs.Table.{isResult, ofKind, Row}
 use Rattle.term3.specs.HostCalls.{AllTyped, Unrefused, UnrefusedFrom}
 use Rattle.term3.proofs.Agreeing.{Agrees, any-none, agrees-next}
 use Rattle.term3.proofs.Table.{row-told}
@@ -101,10 +101,10 @@ begun-tests t (bulkBegin Out a e p k b) buf m log q =
 abbrev pub NoneWaits : Callers → Type 0
 NoneWaits t = (c : ℕ) → c < 8 → t .waits c ≡ false
 
-of-kind : (x : Begin) (n : ℕ) → ofKind (kindOf x) (fieldsOf x n) ≡ true
-of-kind (controlBegin a x p s ph) n = refl
-of-kind (bulkBegin In a e p k b) n = refl
-of-kind (bulkBegin Out a e p k b) n = refl
+of-kind : (x : Begin) → ofKind (kindOf x) x ≡ true
+of-kind (controlBegin a x p s ph) = refl
+of-kind (bulkBegin In a e p k b) = refl
+of-kind (bulkBegin Out a e p k b) = refl
 
 submit-taken : (t : Callers) (d : HostController) (x : Begin) (n : ℕ) → Agrees t d → NoneWaits t → fieldsRefused (fieldsOf x n) ≡ None → call d (submit 0 x n) .answer ≡ Accepted
 unfolding call submitOf
@@ -131,10 +131,10 @@ start-taken t d x buf m log h i w l f =
     rowAt : ℕ → Reply ℕ
     rowAt c =
         let y = put (t .came) 0 (record { fields = x; length = length buf }) c in
-        unless (lentFits m log) 15 (unless (leb c 7 && (ofKind (kindOf x) (fieldsOf (y .fields) (y .length)) && isResult (fieldsRow (y .fields) (y .length)))) 16 (unless (eqb (length buf) (y .length)) 15 (result c)))
+        unless (lentFits m log) 15 (unless (leb c 7 && (ofKind (kindOf x) (y .fields) && isResult (fieldsRow (y .fields) (y .length)))) 16 (unless (eqb (length buf) (y .length)) 15 (result c)))
 
     zero-row : rowAt 0 ≡ result 0
-    zero-row = rw (l, of-kind x (length buf), f, eq-eqb (length buf) (length buf) refl) refl
+    zero-row = rw (l, of-kind x, f, eq-eqb (length buf) (length buf) refl) refl
 
     go : (c : ℕ) → c ≡ 0 → rowAt c ≡ result 0
     go c e = ap rowAt e ∙ zero-row

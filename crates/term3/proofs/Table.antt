@@ -17,14 +17,15 @@ use Rattle.host.specs.Fields.{lengthOf}
 use Rattle.host.specs.Reply.{caller, nobodys, submitReply, turnReply, startReply}
 use Rattle.host.specs.Controller.{freshHost, idle, dispatcherNow, turnOf, fieldsAt}
 use Rattle.host.specs.Submit.{submitOf}
-use Rattle.host.specs.Start.{StartKind, ofKind, startOf}
+use Rattle.host.specs.Start.{StartKind, control, bulkIn, bulkOut, startOf}
+use Rattle.host.specs.Start as S
 use Rattle.host.specs.Rows as H
 use Rattle.host.proofs.Replies.{submit-row, turn-row, start-row}
 use Rattle.record.specs.Calls.{Begin, controlBegin, bulkBegin}
 use Rattle.record.specs.Table.{fieldsRow}
 use Rattle.term3.specs.Calls.{Call, submit, whoseTurn, start, driver, fieldsOf, call}
 use Rattle.term3.specs.Callers.{Coming, Callers, noCallers, whose, hears}
-use Rattle.term3.specs.Table.{comingRow, turnRow, isResult, startRow, Row, TableFrom}
+use Rattle.term3.specs.Table.{comingRow, turnRow, isResult, ofKind, startRow, Row, TableFrom}
 use Rattle.term3.proofs.Agreeing.{Agrees, agrees-next, fresh-agrees}
 
 -- ---- a coming
@@ -70,6 +71,17 @@ length-same (controlBegin a x p s ph) n = refl
 length-same (bulkBegin In a e p k b) n = refl
 length-same (bulkBegin Out a e p k b) n = refl
 
+kind-same : (k : StartKind) (x : Begin) (n : ℕ) → S.ofKind k (fieldsOf x n) ≡ ofKind k x
+kind-same control (controlBegin a x p s ph) n = refl
+kind-same control (bulkBegin In a e p k b) n = refl
+kind-same control (bulkBegin Out a e p k b) n = refl
+kind-same bulkIn (controlBegin a x p s ph) n = refl
+kind-same bulkIn (bulkBegin In a e p k b) n = refl
+kind-same bulkIn (bulkBegin Out a e p k b) n = refl
+kind-same bulkOut (controlBegin a x p s ph) n = refl
+kind-same bulkOut (bulkBegin In a e p k b) n = refl
+kind-same bulkOut (bulkBegin Out a e p k b) n = refl
+
 -- The tests of a turn that somebody has, as one.
 tests : (k f s : Bool) (c : ℕ) → unless k 16 (unless f 16 (unless s 15 (result c))) ≡ unless (k && f) 16 (unless s 15 (result c))
 tests true f s c = refl
@@ -81,32 +93,36 @@ start-told t d k buf m log h =
     ∙ ap (λ (r : Reply ℕ). unless (eqb (length m) 4096 && leb 192 (length log)) 15 r) (go (idle d) (leb (dispatcherNow d .turn) 7) refl refl ∙ ap told (sym (whose-is t d h)))
   where
     told : ℕ → Reply ℕ
-    told c = let x = t .came c in unless (leb c 7 && (ofKind k (fieldsOf (x .fields) (x .length)) && isResult (fieldsRow (x .fields) (x .length)))) 16 (unless (eqb (length buf) (x .length)) 15 (result c))
+    told c = let x = t .came c in unless (leb c 7 && (ofKind k (x .fields) && isResult (fieldsRow (x .fields) (x .length)))) 16 (unless (eqb (length buf) (x .length)) 15 (result c))
+
+    -- All but who has the turn.
+    rest : ℕ → Fields → Reply ℕ
+    rest c x = unless (S.ofKind k x) 16 (unless (H.isTaken (H.fieldsRow x)) 16 (unless (eqb (length buf) (lengthOf x)) 15 (result c)))
 
     here : ℕ → Bool → Reply ℕ
-    here c w = let x = fieldsAt d c in unless (leb c 7 && w) 16 (unless (ofKind k x) 16 (unless (H.isTaken (H.fieldsRow x)) 16 (unless (eqb (length buf) (lengthOf x)) 15 (result c))))
+    here c w = unless (leb c 7 && w) 16 (rest c (fieldsAt d c))
 
     alike : (c : ℕ) (y : Coming) (x : Fields) → fieldsOf (y .fields) (y .length) ≡ x
-        → unless (ofKind k x) 16 (unless (H.isTaken (H.fieldsRow x)) 16 (unless (eqb (length buf) (lengthOf x)) 15 (result c)))
-        ≡ unless (ofKind k (fieldsOf (y .fields) (y .length)) && isResult (fieldsRow (y .fields) (y .length))) 16 (unless (eqb (length buf) (y .length)) 15 (result c))
+        → rest c x ≡ unless (ofKind k (y .fields) && isResult (fieldsRow (y .fields) (y .length))) 16 (unless (eqb (length buf) (y .length)) 15 (result c))
     alike c y x e =
-        ap (λ (z : Fields). unless (ofKind k z) 16 (unless (H.isTaken (H.fieldsRow z)) 16 (unless (eqb (length buf) (lengthOf z)) 15 (result c)))) (sym e)
-        ∙ ap₂ (λ (f : Bool) (n : ℕ). unless (ofKind k (fieldsOf (y .fields) (y .length))) 16 (unless f 16 (unless (eqb (length buf) n) 15 (result c))))
+        ap (rest c) (sym e)
+        ∙ ap₂ (λ (f : Bool) (n : ℕ). unless (S.ofKind k (fieldsOf (y .fields) (y .length))) 16 (unless f 16 (unless (eqb (length buf) n) 15 (result c))))
         (taken-same (H.fieldsRow (fieldsOf (y .fields) (y .length))) ∙ ap isResult (fields-same (y .fields) (y .length))) (length-same (y .fields) (y .length))
-        ∙ tests (ofKind k (fieldsOf (y .fields) (y .length))) (isResult (fieldsRow (y .fields) (y .length))) (eqb (length buf) (y .length)) c
+        ∙ tests (S.ofKind k (fieldsOf (y .fields) (y .length))) (isResult (fieldsRow (y .fields) (y .length))) (eqb (length buf) (y .length)) c
+        ∙ ap (λ (v : Bool). unless (v && isResult (fieldsRow (y .fields) (y .length))) 16 (unless (eqb (length buf) (y .length)) 15 (result c))) (kind-same k (y .fields) (y .length))
 
     go : (i b : Bool) → idle d ≡ i → leb (dispatcherNow d .turn) 7 ≡ b → let c = dispatcherNow d .turn in unless i 16 (here c (pendingAt (d .dispatcher) c)) ≡ told (cond i c 8)
     go false b p q = refl
     go true false p q =
         let c = dispatcherNow d .turn in
-        ap (λ (v : Bool). unless (v && pendingAt (d .dispatcher) c) 16 (unless (ofKind k (fieldsAt d c)) 16 (unless (H.isTaken (H.fieldsRow (fieldsAt d c))) 16 (unless (eqb (length buf) (lengthOf (fieldsAt d c))) 15 (result c))))) q
-        ∙ ap (λ (v : Bool). unless (v && (ofKind k (fieldsOf (t .came c .fields) (t .came c .length)) && isResult (fieldsRow (t .came c .fields) (t .came c .length)))) 16 (unless (eqb (length buf) (t .came c .length)) 15 (result c))) (sym q)
+        ap (λ (v : Bool). unless (v && pendingAt (d .dispatcher) c) 16 (rest c (fieldsAt d c))) q
+        ∙ ap (λ (v : Bool). unless (v && (ofKind k (t .came c .fields) && isResult (fieldsRow (t .came c .fields) (t .came c .length)))) 16 (unless (eqb (length buf) (t .came c .length)) 15 (result c))) (sym q)
     go true true p q =
         let c = dispatcherNow d .turn in
         let w = h .good .pre .held p (below c q) in
-        ap₂ (λ (v u : Bool). unless (v && u) 16 (unless (ofKind k (fieldsAt d c)) 16 (unless (H.isTaken (H.fieldsRow (fieldsAt d c))) 16 (unless (eqb (length buf) (lengthOf (fieldsAt d c))) 15 (result c))))) q w
+        ap₂ (λ (v u : Bool). unless (v && u) 16 (rest c (fieldsAt d c))) q w
         ∙ alike c (t .came c) (fieldsAt d c) (h .came c (below c q) (h .waits c (below c q) ∙ w))
-        ∙ ap (λ (v : Bool). unless (v && (ofKind k (fieldsOf (t .came c .fields) (t .came c .length)) && isResult (fieldsRow (t .came c .fields) (t .came c .length)))) 16 (unless (eqb (length buf) (t .came c .length)) 15 (result c))) (sym q)
+        ∙ ap (λ (v : Bool). unless (v && (ofKind k (t .came c .fields) && isResult (fieldsRow (t .came c .fields) (t .came c .length)))) 16 (unless (eqb (length buf) (t .came c .length)) 15 (result c))) (sym q)
 
 -- ---- every call and every list
 

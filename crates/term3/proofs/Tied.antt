@@ -19,5 +19,7 @@ tied = record {
     h .memory,
     h .log,
   );
-  drives = λ d c b. (refl, refl, refl, refl);
+  drives = λ d c b. (refl, refl, refl, refl, refl, refl);
+  coming-numbers = λ why. refl;
+  start-numbers = λ why. refl;
 }

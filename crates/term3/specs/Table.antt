@@ -5,14 +5,15 @@ use mathlib.Core.List.{List, [], _∷_}
 use Prim.Native.Nat.{ℕ}
 use lib.ListN.{length}
 use lib.Dec.{eqb, leb}
+use Rattle.transfers.specs.declared.wire.Direction.the-variants.{In, Out}
 use Rattle.transfers.specs.Reply.{Reply, result, number}
 use Rattle.transfers.specs.Rows.{unless}
 use Rattle.host.specs.declared.controller.HostController.{HostController}
 use Rattle.host.specs.Reply.{submitReply, Whose, caller, nobodys, turnReply, startReply}
-use Rattle.host.specs.Start.{StartKind, ofKind}
-use Rattle.record.specs.Calls.{Begin}
+use Rattle.host.specs.Start.{StartKind, control, bulkIn, bulkOut}
+use Rattle.record.specs.Calls.{Begin, controlBegin, bulkBegin}
 use Rattle.record.specs.Table.{fieldsRow}
-use Rattle.term3.specs.Calls.{Call, submit, whoseTurn, start, driver, Answer, fieldsOf, call}
+use Rattle.term3.specs.Calls.{Call, submit, whoseTurn, start, driver, Answer, call}
 use Rattle.term3.specs.Callers.{Callers, whose, hears}
 
 -- "A coming refuses with 32 a caller above 7, then with 33 a caller that already waits, then as begin does, save that 8 no longer occurs."
@@ -28,6 +29,17 @@ abbrev pub isResult : {A : Type 0} → Reply A → Bool
 isResult (result a) = true
 isResult (number n) = false
 
+-- "this call's kind": `start_control`, `start_bulk_in` and `start_bulk_out` have one each.
+abbrev pub ofKind : StartKind → Begin → Bool
+ofKind control (controlBegin a x p s ph) = true
+ofKind control (bulkBegin b a e p k t) = false
+ofKind bulkIn (controlBegin a x p s ph) = false
+ofKind bulkIn (bulkBegin In a e p k t) = true
+ofKind bulkIn (bulkBegin Out a e p k t) = false
+ofKind bulkOut (controlBegin a x p s ph) = false
+ofKind bulkOut (bulkBegin In a e p k t) = false
+ofKind bulkOut (bulkBegin Out a e p k t) = true
+
 -- A start answers the caller whose transfer it is. Before its own checks 15 for what is lent; "It is refused with 16 if a transfer is under way, if nobody has the turn
 -- or if that caller's transfer isn't of this call's kind or has fields a coming refuses, then with 15 if the buffer's length isn't the one it came with."
 abbrev pub startRow : Callers → StartKind → List ℕ → List ℕ → List ℕ → Reply ℕ
@@ -35,7 +47,7 @@ startRow t k buf m log =
     let c = whose t in
     let x = t .came c in
     unless (eqb (length m) 4096 && leb 192 (length log)) 15
-    (unless (leb c 7 && (ofKind k (fieldsOf (x .fields) (x .length)) && isResult (fieldsRow (x .fields) (x .length)))) 16 (unless (eqb (length buf) (x .length)) 15 (result c)))
+    (unless (leb c 7 && (ofKind k (x .fields) && isResult (fieldsRow (x .fields) (x .length)))) 16 (unless (eqb (length buf) (x .length)) 15 (result c)))
 
 -- A call answers what its row says.
 abbrev pub Row : Callers → (c : Call) → Answer c → Type 0
