@@ -1,6 +1,6 @@
-//! The lines of the callers' script for the transfer of a begin's line.
+//! The lines of the callers' script for the transfer of a begin's line, and its shares.
 
-use crate::script::{self, TransferKind};
+use crate::script::{self, Shares, TransferKind};
 
 /// The line by which it comes.
 pub fn coming(caller: u64, begin: &str) -> String {
@@ -33,6 +33,12 @@ pub fn start_of(kind: TransferKind, buffer: &str) -> String {
         TransferKind::BulkIn => format!("start-bulk-in {buffer}"),
         TransferKind::BulkOut => format!("start-bulk-out {buffer}"),
     }
+}
+
+/// The line that gives callers 0 to 7 their shares.
+pub fn shares(shares: Shares) -> String {
+    let shares = shares.map(|share| share.to_string());
+    format!("shares {}", shares.join(" "))
 }
 
 /// The first word, all words but the last, and the last.

@@ -5,7 +5,7 @@ use crate::bus::Bus;
 use crate::dispatcher::Dispatcher;
 use crate::driver::Answer;
 use crate::record::{SEND_SETUP, SIE_CTRL};
-use crate::script::{self, Format, Line, Request, Way};
+use crate::script::{self, Coming, Format, Line, Request, Way};
 use crate::session::{Block, Report, Session};
 use std::io::{self, Write};
 
@@ -70,7 +70,7 @@ impl<W: Write> Player<W> {
             return Ok(());
         };
         self.calls += u64::from(is_call(&line));
-        if matches!(line, Line::Fresh | Line::Rule(_)) {
+        if matches!(line, Line::Fresh | Line::Rule(_) | Line::Shares(_)) {
             self.under_way = None;
             self.open = [false; 15];
         }
@@ -83,6 +83,11 @@ impl<W: Write> Player<W> {
 
     pub fn dispatcher(&self) -> &Dispatcher {
         self.session.dispatcher()
+    }
+
+    /// What the transfer came with that a start would start.
+    pub fn next(&self) -> Option<Coming> {
+        self.session.next()
     }
 
     /// Lets a sound device take or send up to so many packets, or take the SETUP, and
@@ -124,7 +129,7 @@ impl<W: Write> Player<W> {
         match line {
             Line::Begin(begin) => Some(UnderWay::of(&begin.request, begin.buffer.len())),
             Line::Start(_) => {
-                let next = self.dispatcher().next()?;
+                let next = self.next()?;
                 Some(UnderWay::of(&next.request, next.length))
             }
             _ => None,
@@ -149,6 +154,8 @@ fn is_call(line: &Line) -> bool {
         line,
         Line::Fresh
             | Line::Rule(_)
+            | Line::Shares(_)
+            | Line::Frame(_)
             | Line::Lend { .. }
             | Line::PacketMemory { .. }
             | Line::Buffer(_)

@@ -20,6 +20,8 @@ pub const NO_SUCH_PIPE: u8 = 17;
 /// Document 02, R-9.
 pub const NO_SUCH_CALLER: u8 = 32;
 pub const ALREADY_WAITS: u8 = 33;
+///
+pub const ABOVE_SHARE: u8 = 34;
 
 /// The lengths lent to a call: 15, "every call with lent memory". Packet memory is lent
 /// to begin, step and poll; the log to these and to open, interrupt routine and

@@ -12,7 +12,8 @@ const LOG: u64 = 192;
 pub enum Format {
     /// docs/REPLAY.md: a transfer begins.
     Replay,
-    /// Document 02, R-9: a transfer comes and, when it is its caller's turn, starts.
+    /// Document 02, R-9 and R-10: a transfer comes and, when it is its caller's turn,
+    /// starts.
     Callers,
 }
 
@@ -26,6 +27,8 @@ pub enum Line {
     Come(Coming),
     Look,
     Start(Start),
+    Frame(u32),
+    Shares(Shares),
     Buffer(Vec<u8>),
     Step(Step),
     Cancel,
@@ -58,6 +61,21 @@ pub struct Coming {
     pub request: Request,
     pub length: usize,
 }
+
+impl Coming {
+    /// "Its full requested bytes ..: wLength or the bulk buffer's length."
+    pub fn bytes(&self) -> u64 {
+        match self.request {
+            Request::Control { setup, .. } => {
+                u16::from_le_bytes([setup[6], setup[7]]).into()
+            }
+            Request::Bulk { .. } => self.length as u64,
+        }
+    }
+}
+
+/// Document 02, R-10: those of callers 0 to 7, in bytes a frame.
+pub type Shares = [u32; 8];
 
 /// The buffer of the caller whose turn it is.
 #[derive(Clone, Debug, PartialEq, Eq)]
@@ -286,6 +304,8 @@ impl<'a> Fields<'a> {
         Ok(match word {
             "come" => Line::Come(self.coming()?),
             "look" => Line::Look,
+            "frame" => Line::Frame(self.register()?),
+            "shares" => Line::Shares(self.shares()?),
             "start-control" => start(TransferKind::Control, self.bytes()?),
             "start-bulk-in" => start(TransferKind::BulkIn, vec![0; self.length()?]),
             "start-bulk-out" => start(TransferKind::BulkOut, self.bytes()?),
@@ -306,6 +326,14 @@ impl<'a> Fields<'a> {
             request,
             length,
         })
+    }
+
+    fn shares(&mut self) -> Read<Shares> {
+        let mut shares = Shares::default();
+        for share in &mut shares {
+            *share = self.register()?;
+        }
+        Ok(shares)
     }
 
     fn request(&mut self, word: &str) -> Read<Request> {
@@ -657,6 +685,27 @@ mod tests {
             read("start-bulk-out -"),
             start(TransferKind::BulkOut, vec![])
         );
+        assert_eq!(read("frame 0xffffffff"), Line::Frame(u32::MAX));
+        assert_eq!(
+            read("shares 0 1 2 3 4 5 6 4294967295"),
+            Line::Shares([0, 1, 2, 3, 4, 5, 6, u32::MAX])
+        );
+    }
+
+    /// "wLength or the bulk buffer's length".
+    #[test]
+    fn a_control_asks_for_its_w_length() {
+        let bytes = |request, length| {
+            let caller = 0;
+            Coming {
+                caller,
+                request,
+                length,
+            }
+            .bytes()
+        };
+        assert_eq!(bytes(CONTROL_OUT, 3), 10);
+        assert_eq!(bytes(BULK_IN, 3), 3);
     }
 
     /// Neither format has the other's lines; what they share is read alike.
@@ -671,13 +720,15 @@ mod tests {
             ),
             ("look", Format::Callers),
             ("start-bulk-in 0", Format::Callers),
+            ("frame 1", Format::Callers),
+            ("shares 1 2 3 4 5 6 7 8", Format::Callers),
         ] {
             for tried in [Format::Replay, Format::Callers] {
                 let read = parse(line.as_bytes(), tried);
                 assert_eq!(read.is_ok(), tried == format, "{line}");
             }
         }
-        for line in ["fresh", "rule 2", "step-in 0 8 0", "close 256", "frame 1"] {
+        for line in ["fresh", "rule 2", "step-in 0 8 0", "close 256", "frame -1"] {
             let read = |format| parse(line.as_bytes(), format);
             assert_eq!(read(Format::Replay), read(Format::Callers), "{line}");
         }

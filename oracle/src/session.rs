@@ -6,7 +6,7 @@ use crate::packets::Packets;
 use crate::record::{Entry, Record, Registers};
 use crate::rules::Lent;
 use crate::runs::{self, Run};
-use crate::script::{Begin, DeskRule, Line, Start, Step};
+use crate::script::{Begin, Coming, DeskRule, Line, Shares, Start, Step};
 use crate::standins::memory::{self, Write};
 
 /// Everything that came of one line.
@@ -48,8 +48,11 @@ impl Report {
 
 pub struct Session {
     rule: DeskRule,
+    shares: Shares,
     driver: Driver,
     dispatcher: Dispatcher,
+    /// What comings, looks and starts bring.
+    frame: u32,
     lent: Lent,
     /// The bytes lent to the next step alone.
     next_buffer: Option<Vec<u8>>,
@@ -64,14 +67,16 @@ pub struct Session {
 
 impl Session {
     pub fn new() -> Self {
-        Self::of(DeskRule::One)
+        Self::of(DeskRule::One, [u32::MAX; 8])
     }
 
-    fn of(rule: DeskRule) -> Self {
+    fn of(rule: DeskRule, shares: Shares) -> Self {
         Self {
             rule,
+            shares,
             driver: Driver::fresh(),
-            dispatcher: Dispatcher::default(),
+            dispatcher: Dispatcher::new(shares),
+            frame: 0,
             lent: Lent::whole(),
             next_buffer: None,
             registers: Registers::default(),
@@ -88,11 +93,19 @@ impl Session {
                 return Block::Record(self.record.bytes().map(<[u8]>::to_vec));
             }
             Line::Fresh => {
-                *self = Self::of(self.rule);
+                *self = Self::of(self.rule, self.shares);
                 Report::ok()
             }
             Line::Rule(rule) => {
-                *self = Self::of(rule);
+                *self = Self::of(rule, self.shares);
+                Report::ok()
+            }
+            Line::Shares(shares) => {
+                *self = Self::of(self.rule, shares);
+                Report::ok()
+            }
+            Line::Frame(frame) => {
+                self.frame = frame;
                 Report::ok()
             }
             Line::Lend { packet_memory, log } => {
@@ -113,11 +126,13 @@ impl Session {
                 self.hand_out(report, Some(&step))
             }
             Line::Begin(begin) => self.begin(&begin),
-            Line::Come(coming) => Report::quiet(match self.dispatcher.come(coming) {
-                Ok(()) => Answer::Come,
-                Err(number) => Answer::Refused(number),
-            }),
-            Line::Look => Report::quiet(Answer::Turn(self.dispatcher.look())),
+            Line::Come(coming) => {
+                Report::quiet(match self.dispatcher.come(self.frame, coming) {
+                    Ok(()) => Answer::Come,
+                    Err(number) => Answer::Refused(number),
+                })
+            }
+            Line::Look => Report::quiet(Answer::Turn(self.dispatcher.look(self.frame))),
             Line::Start(start) => self.start(start),
             Line::Cancel => {
                 let report = self.plain_call(Driver::cancel);
@@ -148,7 +163,7 @@ impl Session {
     /// nothing armed, writes nothing.
     fn start(&mut self, start: Start) -> Report {
         let lent = self.lent.both();
-        match lent.and_then(|()| self.dispatcher.start(start)) {
+        match lent.and_then(|()| self.dispatcher.start(self.frame, start)) {
             Ok((caller, begin)) => {
                 let report = self.begin(&begin);
                 assert!(matches!(report.answer, Answer::Begun));
@@ -225,6 +240,11 @@ impl Session {
 
     pub fn dispatcher(&self) -> &Dispatcher {
         &self.dispatcher
+    }
+
+    /// What the transfer came with that a start would start.
+    pub fn next(&self) -> Option<Coming> {
+        self.dispatcher.seen(self.frame).next().cloned()
     }
 
     /// A register as the logs so far leave it.

@@ -75,6 +75,12 @@ fn callers() {
     check_played(&["callers"], "callers");
 }
 
+/// The smallest lists with shares and frames.
+#[test]
+fn shares() {
+    check_played(&["callers"], "shares");
+}
+
 #[test]
 fn unreadable_lines_of_callers() {
     check_played(&["callers"], "callers-unreadable");

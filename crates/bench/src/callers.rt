@@ -10,8 +10,12 @@ use transfers::driver::DeskRule;
 use transfers::host_controller::DataPhase;
 use transfers::host_controller::TransferExtras;
 
+// Every call's frame number.
+const FRAME: u32 = 0;
+
+// No workload uses up a share.
 fn held(w: Work) -> HostController {
-    let mut host = HostController::new(DeskRule::One);
+    let mut host = HostController::new(DeskRule::One, [0xFFFF_FFFF; 8]);
     let d = w.driver;
     host.driver = d;
     host
@@ -20,11 +24,20 @@ fn held(w: Work) -> HostController {
 // The work of `waiting`, by caller 3.
 pub fn held_waiting(w: Work, buf: &mut [u8], pm: &mut [u8], log: &mut [u32]) -> Work {
     let mut host = held(w);
-    let s = host.submit_bulk_in(3, 5, 2, 64, TransferType::FixedSize, false, buf.len());
+    let s = host.submit_bulk_in(
+        3,
+        5,
+        2,
+        64,
+        TransferType::FixedSize,
+        false,
+        buf.len(),
+        FRAME,
+    );
     host = s.next;
-    let t = host.whose_turn();
+    let t = host.whose_turn(FRAME);
     host = t.next;
-    let b = host.start_bulk_in(buf, pm, log);
+    let b = host.start_bulk_in(FRAME, buf, pm, log);
     host = b.next;
     for _ in 0..STEPS {
         let p = host.driver.step_in(nothing(), buf, pm, log);
@@ -34,7 +47,7 @@ pub fn held_waiting(w: Work, buf: &mut [u8], pm: &mut [u8], log: &mut [u32]) -> 
     let c = host.driver.cancel();
     let n = c.next;
     host.driver = n;
-    let l = host.whose_turn();
+    let l = host.whose_turn(FRAME);
     let last = l.next;
     let next = last.driver;
     Work {
@@ -58,11 +71,12 @@ pub fn turns(w: Work, pm: &[u8], log: &mut [u32]) -> Work {
             packet,
             DataPhase::None,
             0,
+            FRAME,
         );
         host = s.next;
-        let t = host.whose_turn();
+        let t = host.whose_turn(FRAME);
         host = t.next;
-        let b = host.start_control(&none, pm, log);
+        let b = host.start_control(FRAME, &none, pm, log);
         host = b.next;
         let c = host.driver.cancel();
         let n = c.next;

@@ -32,7 +32,7 @@ fn finish(s: Callers, r: SubmitResult, out: &mut [u8]) -> Callers {
     let mut x = s.session;
     let at = print_submit(out, x.at, a);
     x.at = block_end(out, at);
-    with_host(x, next)
+    with_host(x, next, s.frame)
 }
 
 pub fn come_control(
@@ -52,11 +52,18 @@ pub fn come_control(
         packet_of(setup),
         phase,
         c.count,
+        s.frame,
     );
     finish(s, r, out)
 }
 
-fn submit_bulk(h: HostController, caller: u8, direction: Direction, b: Bulk) -> SubmitResult {
+fn submit_bulk(
+    h: HostController,
+    caller: u8,
+    direction: Direction,
+    b: Bulk,
+    frame: u32,
+) -> SubmitResult {
     let kind = kind_of(b.variable);
     match direction {
         Direction::In => h.submit_bulk_in(
@@ -67,6 +74,7 @@ fn submit_bulk(h: HostController, caller: u8, direction: Direction, b: Bulk) -> 
             kind,
             b.toggle,
             b.count,
+            frame,
         ),
         Direction::Out => h.submit_bulk_out(
             caller,
@@ -76,13 +84,14 @@ fn submit_bulk(h: HostController, caller: u8, direction: Direction, b: Bulk) -> 
             kind,
             b.toggle,
             b.count,
+            frame,
         ),
     }
 }
 
 pub fn come_bulk(s: Callers, caller: u8, direction: Direction, b: Bulk, out: &mut [u8]) -> Callers {
     let h = host_of(s);
-    let r = submit_bulk(h, caller, direction, b);
+    let r = submit_bulk(h, caller, direction, b, s.frame);
     finish(s, r, out)
 }
 
@@ -95,11 +104,11 @@ fn print_turn(out: &mut [u8], at: usize, a: TurnAnswer) -> usize {
 
 pub fn look(s: Callers, out: &mut [u8]) -> Callers {
     let h = host_of(s);
-    let t = h.whose_turn();
+    let t = h.whose_turn(s.frame);
     let next = t.next;
     let a = t.answer;
     let mut x = s.session;
     let at = print_turn(out, x.at, a);
     x.at = block_end(out, at);
-    with_host(x, next)
+    with_host(x, next, s.frame)
 }

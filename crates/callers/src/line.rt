@@ -1,4 +1,4 @@
-// A line of the input: a coming, a look, a start, or a line of the replay script that begins no transfer.
+// A line of the input: a coming, a look, a start, a frame, the shares, or a line of the replay script that begins no transfer.
 use script::begins::OptionBulk;
 use script::begins::OptionControl;
 use script::begins::read_bulk_length;
@@ -13,16 +13,19 @@ use script::field::same;
 use script::line::is_skipped;
 use script::line::read_call;
 use script::typed::OptionByte;
+use script::typed::OptionWord;
 use script::typed::after_field;
 use script::typed::byte_at;
 use script::typed::bytes_at;
 use script::typed::field;
 use script::typed::fields;
 use script::typed::length_at;
+use script::typed::word_at;
 use transfers::host_controller::DataPhase;
 use transfers::wire::Direction;
 ghost use mathlib.Core.Path.{_≡_};
-ghost use Rattle.callers.specs.Lines.{comeControl, comeBulk, comingOf, comeOf, startOf, startBulkInOf, wordOf, lineOf};
+ghost use Prim.Native.Nat.{_≤_};
+ghost use Rattle.callers.specs.Lines.{comeControl, comeBulk, comingOf, comeOf, startOf, startBulkInOf, frameOf, fourOf, sharesOf, wordOf, lineOf};
 
 // The starts, by what they start.
 pub enum Kind {
@@ -31,12 +34,28 @@ pub enum Kind {
     BulkOut,
 }
 
+// The shares of four callers, in order.
+pub struct Four {
+    pub first: u32,
+    pub second: u32,
+    pub third: u32,
+    pub fourth: u32,
+}
+
+pub enum OptionFour {
+    Some(Four),
+    None,
+}
+
 // A coming has CALLER first, and LEN as its `count`. A start has LEN, or how many bytes BYTES has; the bytes stand at the start of those lent.
+// The shares are those of callers 0 to 3, then of 4 to 7.
 pub enum Command {
     ComeControl(u8, DataPhase, Control),
     ComeBulk(u8, Direction, Bulk),
     Look,
     Start(Kind, usize),
+    Frame(u32),
+    Shares(Four, Four),
     Other(Call),
 }
 
@@ -120,7 +139,68 @@ fn read_start_bulk_in(line: &[u8]) -> Command
     Command::Start(Kind::BulkIn, n)
 }
 
-// By the first word: comings and starts; `look` stands alone on its line, any other line is the replay script's.
+// `frame N`.
+fn read_frame(line: &[u8]) -> Command
+    ensures { λ r. ⌜ r ≡ frameOf (now (line .entry)) ⌝ }
+{
+    if fields(line) != 2 {
+        return Command::Other(Call::Wrong);
+    }
+    let f1 = word_at(line, 1);
+    let OptionWord::Some(n) = f1 else {
+        return Command::Other(Call::Wrong);
+    };
+    Command::Frame(n)
+}
+
+// The shares that stand from field k on.
+fn read_four(line: &[u8], k: usize) -> OptionFour
+    requires { ⌜ k ≤ 5 ⌝ }
+    ensures { λ r. ⌜ r ≡ fourOf (now (line .entry)) k ⌝ }
+{
+    let f1 = word_at(line, k);
+    let OptionWord::Some(first) = f1 else {
+        return OptionFour::None;
+    };
+    let f2 = word_at(line, k + 1);
+    let OptionWord::Some(second) = f2 else {
+        return OptionFour::None;
+    };
+    let f3 = word_at(line, k + 2);
+    let OptionWord::Some(third) = f3 else {
+        return OptionFour::None;
+    };
+    let f4 = word_at(line, k + 3);
+    let OptionWord::Some(fourth) = f4 else {
+        return OptionFour::None;
+    };
+    OptionFour::Some(Four {
+        first,
+        second,
+        third,
+        fourth,
+    })
+}
+
+// `shares S0 S1 S2 S3 S4 S5 S6 S7`.
+fn read_shares(line: &[u8]) -> Command
+    ensures { λ r. ⌜ r ≡ sharesOf (now (line .entry)) ⌝ }
+{
+    if fields(line) != 9 {
+        return Command::Other(Call::Wrong);
+    }
+    let f1 = read_four(line, 1);
+    let OptionFour::Some(low) = f1 else {
+        return Command::Other(Call::Wrong);
+    };
+    let f2 = read_four(line, 5);
+    let OptionFour::Some(high) = f2 else {
+        return Command::Other(Call::Wrong);
+    };
+    Command::Shares(low, high)
+}
+
+// By the first word: comings, starts, frame and shares; `look` stands alone on its line, any other line is the replay script's.
 fn read_word(word: &[u8], line: &[u8], out: &mut [u8; 131072]) -> Command
     ensures { λ r. ⌜ (r ≡ wordOf (now (word .entry)) (now (line .entry)) (now (out .entry)) .command) × (now (out .exit) ≡ wordOf (now (word .entry)) (now (line .entry)) (now (out .entry)) .stored) ⌝ }
 {
@@ -135,6 +215,12 @@ fn read_word(word: &[u8], line: &[u8], out: &mut [u8; 131072]) -> Command
     }
     if same(word, b"start-bulk-out") {
         return read_start(Kind::BulkOut, line, out);
+    }
+    if same(word, b"frame") {
+        return read_frame(line);
+    }
+    if same(word, b"shares") {
+        return read_shares(line);
     }
     if same(line, b"look") {
         return Command::Look;

@@ -23,7 +23,10 @@ fn main() {
     let mut bytes = [0u8; 131072];
     let mut record = [0u8; 131072];
     let mut out = [0u8; 600000];
-    let mut s = fresh_callers(fresh_state(DeskRule::One, &mut pm, &mut record));
+    let mut s = fresh_callers(
+        fresh_state(DeskRule::One, &mut pm, &mut record),
+        [u32::MAX; 8],
+    );
     let mut place = start();
     let mut turns = u64::MAX;
     while turns > 0 && !place.ended {

@@ -31,6 +31,7 @@ fn keep(s: State, r: StartResult, count: usize, bulk: bool, buf: &mut [u8], byte
 
 fn finish(
     mut s: State,
+    frame: u32,
     r: StartResult,
     old: &[u8; 4096],
     pm: &[u8],
@@ -43,7 +44,7 @@ fn finish(
     let armed = r.armed;
     s.at = print_start(out, s.at, a);
     let s = session::begin::finish(s, armed, r.writes, old, pm, log, record, out);
-    with_host(s, next)
+    with_host(s, next, frame)
 }
 
 // The host's starts, on what is lent.
@@ -61,9 +62,9 @@ fn lend(
     let m = within(x.memory, pm);
     let w = within_words(x.words, log);
     match kind {
-        Kind::Control => h.start_control(&bytes[..k], &pm[..m], &mut log[..w]),
-        Kind::BulkIn => h.start_bulk_in(&bytes[..k], &pm[..m], &mut log[..w]),
-        Kind::BulkOut => h.start_bulk_out(&bytes[..k], &mut pm[..m], &mut log[..w]),
+        Kind::Control => h.start_control(s.frame, &bytes[..k], &pm[..m], &mut log[..w]),
+        Kind::BulkIn => h.start_bulk_in(s.frame, &bytes[..k], &pm[..m], &mut log[..w]),
+        Kind::BulkOut => h.start_bulk_out(s.frame, &bytes[..k], &mut pm[..m], &mut log[..w]),
     }
 }
 
@@ -98,5 +99,5 @@ pub fn start(
     clear(kind, bytes);
     let r = lend(s, kind, n, bytes, pm, &mut log);
     let x = keep(x, r, n, is_bulk(kind), buf, bytes);
-    finish(x, r, &old, pm, &log, record, out)
+    finish(x, s.frame, r, &old, pm, &log, record, out)
 }

@@ -1,4 +1,4 @@
-// What a script's lines leave behind: the session's state, and what a host holds beside its driver.
+// What a script's lines leave behind: the session's state, what a host holds beside its driver, and the frame number that the next calls bring.
 use dispatcher::Dispatcher;
 use host::controller::HostController;
 use host::fields::Submission;
@@ -8,6 +8,7 @@ pub struct Callers {
     pub session: State,
     pub dispatcher: Dispatcher,
     pub submissions: [Submission; 8],
+    pub frame: u32,
 }
 
 pub fn host_of(s: Callers) -> HostController {
@@ -23,7 +24,7 @@ pub fn host_of(s: Callers) -> HostController {
 }
 
 // After a host's call.
-pub fn with_host(mut session: State, h: HostController) -> Callers {
+pub fn with_host(mut session: State, h: HostController, frame: u32) -> Callers {
     let driver = h.driver;
     let dispatcher = h.dispatcher;
     let submissions = h.submissions;
@@ -32,12 +33,13 @@ pub fn with_host(mut session: State, h: HostController) -> Callers {
         session,
         dispatcher,
         submissions,
+        frame,
     }
 }
 
-// After a fresh start: nobody has come yet.
-pub fn fresh_callers(session: State) -> Callers {
+// After a fresh start: nobody has come yet, and the frame number is 0.
+pub fn fresh_callers(session: State, quota: [u32; 8]) -> Callers {
     let d = session.driver;
     let rule = d.rule;
-    with_host(session, HostController::new(rule))
+    with_host(session, HostController::new(rule, quota), 0)
 }

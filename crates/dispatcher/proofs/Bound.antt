@@ -1,4 +1,4 @@
--- "at most seven transfers of others end between a caller's coming and its turn". Assumes nothing.
+-- "at most seven transfers of others end between a caller's coming and its turn", counted from when its remainder suffices. Assumes nothing.
 use mathlib.Core.Path.{_≡_, refl, sym, ap, _∙_, subst}
 use mathlib.Core.Logic.{_⊎_, inl, inr}
 use mathlib.Core.Bool.{Bool, true, false, cond, _&&_, true≢false}
@@ -9,10 +9,11 @@ use lib.Seq.{getD-set-other}
 use lib.Dec.{leb, eqb}
 use borrow.Author.Tests.{leb-true, leb-false, lt-leb, eqb-false, ne-eqb}
 use Rattle.dispatcher.specs.declared.Dispatcher.{Dispatcher}
-use Rattle.dispatcher.specs.Dispatcher.{nobody, pendingAt, nextTurn, passes, settled, whose, withPending, starts}
+use Rattle.dispatcher.specs.Dispatcher.{nobody, requestedAt, usedAt, quotaAt, fits, nextTurn, passes, settled, whose, inFrame, withPending, observes, charged, starts}
 use Rattle.dispatcher.specs.Events.{Event, submitted, observed, started, ended, nothing, moved, idleAfter, Allowed, AllAllowed, runner, endsOther, othersEnd}
 use Rattle.dispatcher.proofs.Rounds.{gap}
-use Rattle.dispatcher.proofs.Turning.{Good, next-reach, still-pending, move-good}
+use Rattle.dispatcher.proofs.Rooms.{fits-told, fits-made, fits-frame}
+use Rattle.dispatcher.proofs.Turning.{Good, next-reach, still-fits, move-good}
 
 -- So many transfers of others can still end before c has the turn: those of the callers from the one whose turn it is up to c; while one is under way those from it on, seven others if it is c's own.
 abbrev pub left : Bool → Dispatcher → ℕ → ℕ
@@ -29,8 +30,8 @@ left-seven false t c = go (eqb (t .last) c)
 
 -- ---- one event
 
--- Where somebody waits somebody has the turn, and settling changes nothing.
-turn-held : (idle : Bool) (t : Dispatcher) (c : ℕ) → Good idle t → c < 8 → pendingAt t c ≡ true → idle ≡ true → t .turn < 8
+-- Where somebody fits somebody has the turn, and settling changes nothing.
+turn-held : (idle : Bool) (t : Dispatcher) (c : ℕ) → Good idle t → c < 8 → fits t c ≡ true → idle ≡ true → t .turn < 8
 turn-held idle t c g h f i = go (leb 8 (t .turn)) refl
   where
     go : (b : Bool) → leb 8 (t .turn) ≡ b → t .turn < 8
@@ -46,9 +47,9 @@ left-same : (idle : Bool) (t u : Dispatcher) (c : ℕ) → u .turn ≡ t .turn �
 left-same true t u c e h = ap (λ (x : ℕ). (c + 8 - x) % 8) e
 left-same false t u c e h = ap (λ (x : ℕ). cond (eqb x c) 7 ((c + 8 - x) % 8)) h
 
--- c goes on waiting, the bound falls by one with each end of another's, and whose transfer is under way is the last that started.
+-- c goes on fitting, the bound falls by one with each end of another's, and whose transfer is under way is the last that started.
 record Nearer (c r : ℕ) (idle : Bool) (t : Dispatcher) (x : Event) : Type 0 where
-  still : pendingAt (moved idle t x) c ≡ true
+  still : fits (moved idle t x) c ≡ true
   fewer : endsOther c r x + left (idleAfter idle x) (moved idle t x) c ≤ left idle t c
   ran : idleAfter idle x ≡ false → runner r x ≡ moved idle t x .last
 
@@ -80,24 +81,35 @@ end-near r c j hr hc hj n = go (eqb r c) refl n
     go false e (inl q) = subst (λ (x : ℕ). 1 + (c + 8 - x) % 8 ≤ (c + 8 - r) % 8) (sym q) (own (apart r c (eqb-false r c e)))
     go false e (inr q) = near (apart r c (eqb-false r c e)) q
 
-nearer : (c r : ℕ) (idle : Bool) (t : Dispatcher) (x : Event) → Good idle t → Allowed idle t x → c < 8 → pendingAt t c ≡ true → (idle ≡ false → r ≡ t .last) → (whose idle t ≡ c → ⊥) → Nearer c r idle t x
-nearer c r idle t (submitted d) g a h f rl nt =
-    let u = withPending t d true in
+nearer : (c r : ℕ) (idle : Bool) (t : Dispatcher) (x : Event) → Good idle t → Allowed idle t x → c < 8 → fits t c ≡ true → (idle ≡ false → r ≡ t .last) → (whose idle t ≡ c → ⊥) → Nearer c r idle t x
+nearer c r idle t (submitted d n g) k a h f rl nt =
+    let u = withPending (inFrame t g) d n in
     record {
-      still = still-pending t d c (a .1) f;
-      fewer = zero-plus (left idle (settled idle u) c) (left idle t c) (left-same idle t (settled idle u) c (stays idle u (nextTurn u) (turn-held idle t c g h f)) refl);
+      still = still-fits (inFrame t g) d n c (a .1) (fits-frame t g c f);
+      fewer = zero-plus (left idle (settled idle u) c) (left idle t c) (left-same idle t (settled idle u) c (stays idle u (nextTurn u) (turn-held idle t c k h f)) refl);
       ran = rl;
     }
-nearer c r idle t observed g a h f rl nt = record { still = f; fewer = zero-plus (left idle t c) (left idle t c) refl; ran = rl }
-nearer c r true t (started d) g a h f rl nt =
-    let ne : c ≡ d → ⊥ = λ e. nt (a .2 ∙ sym e) in
+nearer c r idle t (observed g) k a h f rl nt =
+    let u = inFrame t g in
     record {
-      still = getD-set-other (t .pending) d c false false ne ∙ f;
-      fewer = zero-plus (left false (starts t d) c) (left true t c)
-          (ap (λ (b : Bool). cond b 7 ((c + 8 - d) % 8)) (ne-eqb d c (λ e. ne (sym e))) ∙ ap (λ (x : ℕ). (c + 8 - x) % 8) (sym (a .2)));
+      still = fits-frame t g c f;
+      fewer = zero-plus (left idle (settled idle u) c) (left idle t c) (left-same idle t (settled idle u) c (stays idle u (nextTurn u) (turn-held idle t c k h f)) refl);
+      ran = rl;
+    }
+nearer c r true t (started d g) k a h f rl nt =
+    let u = inFrame t g in
+    let v = observes true t g in
+    let turn-d : t .turn ≡ d = sym (stays true u (nextTurn u) (turn-held true t c k h f)) ∙ a .2 in
+    let ne : (c ≡ d) → ⊥ = λ e. nt (turn-d ∙ sym e) in
+    let q = fits-told v c (fits-frame t g c f) in
+    let same = getD-set-other (v .used) d c (charged v d (requestedAt t d)) 0 ne in
+    record {
+      still = fits-made (starts v d (requestedAt t d)) c (getD-set-other (v .pending) d c false false ne ∙ q .0) (omega (arith, same, q .1));
+      fewer = zero-plus (left false (starts v d (requestedAt t d)) c) (left true t c)
+          (ap (λ (b : Bool). cond b 7 ((c + 8 - d) % 8)) (ne-eqb d c (λ e. ne (sym e))) ∙ ap (λ (x : ℕ). (c + 8 - x) % 8) (sym turn-d));
       ran = λ e. refl;
     }
-nearer c r false t (started d) g a h f rl nt = absurd (true≢false (sym (a .0)))
+nearer c r false t (started d g) k a h f rl nt = absurd (true≢false (sym (a .0)))
 nearer c r false t ended g a h f rl nt =
     let q = next-reach t (g .pre .last8) c h f in
     record {
@@ -113,8 +125,8 @@ nearer c r idle t nothing g a h f rl nt = record { still = f; fewer = zero-plus 
 sum-le : (a b p q : ℕ) → b ≤ p → a + p ≤ q → a + b ≤ q
 sum-le a b p q h k = omega arith
 
--- From any moment at which c waits, no more than `left` transfers of others end before it has the turn.
-pub bound : (xs : List Event) (idle : Bool) (t : Dispatcher) (c r : ℕ) → Good idle t → AllAllowed idle t xs → c < 8 → pendingAt t c ≡ true → (idle ≡ false → r ≡ t .last)
+-- From any moment at which c waits and its remainder is large enough, no more than `left` transfers of others end before it has the turn.
+pub bound : (xs : List Event) (idle : Bool) (t : Dispatcher) (c r : ℕ) → Good idle t → AllAllowed idle t xs → c < 8 → fits t c ≡ true → (idle ≡ false → r ≡ t .last)
     → othersEnd c r idle t xs ≤ left idle t c
 unfolding othersEnd
 bound [] idle t c r g a h f rl = omega arith

@@ -1,4 +1,5 @@
 pub mod Rounds
+pub mod Rooms
 pub mod Turning
 pub mod Passing
 pub mod Bound

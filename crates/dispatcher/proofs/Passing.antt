@@ -3,12 +3,13 @@ use mathlib.Core.Path.{_≡_, refl, sym, ap, _∙_}
 use mathlib.Core.Bool.{Bool, true, false, cond, true≢false}
 use Prim.Native.Nat.{ℕ, _≤_, _<_}
 use native.Mathlib.Omega.{arith}
-use lib.Seq.{getD-set-same, getD-set-other}
+use lib.Seq.{getD-set-other}
 use lib.Dec.{leb, eqb}
 use borrow.Author.Tests.{leb-true, leb-false, le-leb, eqb-true, eqb-false}
 use Rattle.dispatcher.specs.declared.Dispatcher.{Dispatcher}
-use Rattle.dispatcher.specs.Dispatcher.{nobody, pendingAt, nextTurn, withTurn, passes, current, whose, withPending, submits}
+use Rattle.dispatcher.specs.Dispatcher.{nobody, pendingAt, fits, nextTurn, withTurn, passes, current, whose, inFrame, withPending, submits}
 use Rattle.dispatcher.proofs.Rounds.{Reached}
+use Rattle.dispatcher.proofs.Rooms.{fits-told}
 use Rattle.dispatcher.proofs.Turning.{Good, next-reach, next-small, next-held}
 
 -- ---- what is stored, as of now
@@ -43,24 +44,28 @@ current-same true t g = go (leb nobody (t .turn)) refl
 
 -- ---- where the turn goes
 
--- "With none under way or waiting, the next to come has the turn."
-pub first-submit : (t : Dispatcher) (c : ℕ) → Good true t → ((e : ℕ) → e < 8 → pendingAt t e ≡ false) → c < 8 → whose true (submits true t c) ≡ c
-first-submit t c g none h =
-    ap (λ (b : Bool). cond b (nextTurn (withPending t c true)) (t .turn)) (le-leb nobody (t .turn) (free (leb 8 (t .turn)) refl))
-    ∙ only (nextTurn (withPending t c true)) (r .small) (r .good)
+-- "With none under way or waiting, the next to come has the turn.": if its remainder is large enough.
+pub first-submit : (t : Dispatcher) (c n f : ℕ) → Good true t → ((e : ℕ) → e < 8 → pendingAt t e ≡ false) → c < 8 → fits (withPending (inFrame t f) c n) c ≡ true
+    → whose true (submits true t c n f) ≡ c
+first-submit t c n f g none h fit =
+    ap (λ (b : Bool). cond b (nextTurn u) (t .turn)) (le-leb nobody (t .turn) (free (leb 8 (t .turn)) refl))
+    ∙ only (nextTurn u) (r .small) (fits-told u (nextTurn u) (r .good) .0)
   where
+    u : Dispatcher
+    u = withPending (inFrame t f) c n
+
     free : (b : Bool) → leb 8 (t .turn) ≡ b → 8 ≤ t .turn
     free true e = leb-true 8 (t .turn) e
     free false e =
         let k = leb-false 8 (t .turn) e in
-        absurd (true≢false (sym (g .pre .held refl k) ∙ none (t .turn) k))
+        absurd (true≢false (sym (fits-told t (t .turn) (g .pre .held refl k) .0) ∙ none (t .turn) k))
 
-    only : (e : ℕ) → e < 8 → pendingAt (withPending t c true) e ≡ true → e ≡ c
+    only : (e : ℕ) → e < 8 → pendingAt u e ≡ true → e ≡ c
     only e he w = go (eqb e c) refl
       where
         go : (b : Bool) → eqb e c ≡ b → e ≡ c
         go true q = eqb-true e c q
         go false q = absurd (true≢false (sym w ∙ getD-set-other (t .pending) c e true false (eqb-false e c q) ∙ none e he))
 
-    r : Reached (pendingAt (withPending t c true)) (t .last) c (nextTurn (withPending t c true))
-    r = next-reach (withPending t c true) (g .pre .last8) c h (getD-set-same (t .pending) c true false (let q = g .pre .pending8 in omega (arith, q)))
+    r : Reached (fits u) (t .last) c (nextTurn u)
+    r = next-reach u (g .pre .last8) c h fit

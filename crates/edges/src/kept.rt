@@ -1,4 +1,4 @@
-// Whether two states have the same turns, and callers that came with the same numbers.
+// Whether two states have the same turns, shares, spent counts and frame, and callers that came with the same numbers.
 use dispatcher::Dispatcher;
 use host::controller::HostController;
 use host::fields::BulkFields;
@@ -37,6 +37,15 @@ fn same_fields(a: Fields, b: Fields) -> bool {
     }
 }
 
+fn same_place(a: Dispatcher, b: Dispatcher, i: usize) -> bool
+    requires { ⌜ i < 8 ⌝ }
+{
+    a.pending[i] == b.pending[i]
+        && a.requested[i] == b.requested[i]
+        && a.quota[i] == b.quota[i]
+        && a.used[i] == b.used[i]
+}
+
 fn same_caller(a: HostController, b: HostController, i: usize) -> bool
     requires { ⌜ i < 8 ⌝ }
 {
@@ -46,11 +55,11 @@ fn same_caller(a: HostController, b: HostController, i: usize) -> bool
     let y = t.fields;
     let d = a.dispatcher;
     let e = b.dispatcher;
-    same_fields(x, y) && d.pending[i] == e.pending[i]
+    same_fields(x, y) && same_place(d, e, i)
 }
 
 fn same_turn(a: Dispatcher, b: Dispatcher) -> bool {
-    a.turn == b.turn && a.last == b.last
+    a.turn == b.turn && a.last == b.last && a.frame == b.frame
 }
 
 pub(crate) fn is_kept(before: HostController, after: HostController) -> bool {

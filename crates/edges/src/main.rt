@@ -2,7 +2,9 @@
 mod bounds;
 mod callers;
 mod forged;
+mod hosts;
 mod kept;
+mod shares;
 mod stages;
 
 use cutting::packetiser::OptionArm;
@@ -72,4 +74,5 @@ fn main() {
     stages::stages();
     bounds::bounds();
     callers::callers();
+    shares::shares();
 }

@@ -18,19 +18,20 @@ use Rattle.transfers.specs.State.{addressGood, endpointGood, sizeGood}
 use Rattle.transfers.specs.Calls.{isIdle, fieldsRefusal, Beginning, beginRefusal, beginOr, beginsControl, bulkRequest, beginsBulkIn, beginsBulkOut, beginControlOf, beginBulkInOf, beginBulkOutOf}
 use Rattle.transfers.specs.declared.wire.Direction.the-variants.{In, Out}
 use Rattle.dispatcher.specs.declared.Dispatcher.{Dispatcher}
-use Rattle.dispatcher.specs.Dispatcher.{pendingAt, whose}
+use Rattle.dispatcher.specs.Dispatcher.{pendingAt, hasRoom, whose}
 use Rattle.dispatcher.proofs.Rounds.{below}
 use Rattle.host.specs.declared.fields.Fields.{Fields}
 use Rattle.host.specs.declared.fields.Fields.the-variants.{Control, BulkIn, BulkOut}
 use Rattle.host.specs.declared.controller.HostController.{HostController}
+use Rattle.host.specs.declared.start.NextStart.{NextStart}
 use Rattle.host.specs.declared.start.OptionStart.the-variants.{Ready, Unready}
-use Rattle.host.specs.Fields.{lengthOf, fieldsRefused}
-use Rattle.host.specs.Controller.{idle, dispatcherNow, turnOf, fieldsAt}
+use Rattle.host.specs.Fields.{lengthOf, requestedOf, fieldsRefused}
+use Rattle.host.specs.Controller.{idle, fieldsAt, observed, turnOf}
 use Rattle.host.specs.Start.{StartKind, ofKind, isNone, mayStart, Starting, refusesStart, beginningOf, startsAs, startIf, startLent, startOf}
 
 -- ---- the tests
 
-and-left : (a b : Bool) → (a && b) ≡ true → a ≡ true
+pub and-left : (a b : Bool) → (a && b) ≡ true → a ≡ true
 and-left true b e = refl
 and-left false b e = absurd (true≢false (sym e))
 
@@ -74,73 +75,86 @@ begin-taken t (BulkOut x) buf m log p q e h =
 
 -- ---- every start
 
+-- Who starts in frame f, and what it came with.
+abbrev pub nextIn : HostController → ℕ → NextStart
+nextIn d f = let c = turnOf (observed d f) in record { caller = c; fields = fieldsAt d c }
+
 -- The begin that a start makes.
-abbrev pub beginningNow : HostController → List ℕ → List ℕ → List ℕ → Beginning
-beginningNow d buf m log = beginningOf (d .driver .transfer) (fieldsAt d (turnOf d)) buf m log
+abbrev pub beginningIn : HostController → ℕ → List ℕ → List ℕ → List ℕ → Beginning
+beginningIn d f buf m log = beginningOf (d .driver .transfer) (nextIn d f .fields) buf m log
 
 -- It was not refused.
-pub record Begins (d : HostController) (k : StartKind) (buf m log : List ℕ) : Type 0 where
-  pub is : startOf d k buf m log ≡ startsAs d (turnOf d) (beginningNow d buf m log)
-  pub small : turnOf d < 8
+pub record Begins (d : HostController) (k : StartKind) (f : ℕ) (buf m log : List ℕ) : Type 0 where
+  pub is : startOf d k f buf m log ≡ startsAs (observed d f) (nextIn d f) (beginningIn d f buf m log)
+  pub small : nextIn d f .caller < 8
   pub idles : idle d ≡ true
-  pub pending : pendingAt (d .dispatcher) (turnOf d) ≡ true
-  pub taken : Taken (beginningNow d buf m log)
+  pub pending : pendingAt (d .dispatcher) (nextIn d f .caller) ≡ true
+  pub room : hasRoom (observed d f .dispatcher) (nextIn d f .caller) (requestedOf (nextIn d f .fields)) ≡ true
+  pub taken : Taken (beginningIn d f buf m log)
 
 -- A start is refused and changes nothing, or begins.
-pub data Start (d : HostController) (k : StartKind) (buf m log : List ℕ) : Type 0 where
-  refusedStart : (why : Refusal) → startOf d k buf m log ≡ refusesStart d why m → Start d k buf m log
-  takenStart : Begins d k buf m log → Start d k buf m log
+pub data Start (d : HostController) (k : StartKind) (f : ℕ) (buf m log : List ℕ) : Type 0 where
+  refusedStart : (why : Refusal) → startOf d k f buf m log ≡ refusesStart d why m → Start d k f buf m log
+  takenStart : Begins d k f buf m log → Start d k f buf m log
 
 -- By the four tests.
-abbrev startBy : Bool → Bool → Bool → Bool → HostController → ℕ → List ℕ → Beginning → Starting
-startBy false may kind same d c m o = refusesStart d LentMemory m
-startBy true false kind same d c m o = refusesStart d State m
-startBy true true false same d c m o = refusesStart d State m
-startBy true true true false d c m o = refusesStart d LentMemory m
-startBy true true true true d c m o = startsAs d c o
+abbrev startBy : Bool → Bool → Bool → Bool → HostController → ℕ → NextStart → List ℕ → Beginning → Starting
+startBy false may kind same d f n m o = refusesStart d LentMemory m
+startBy true false kind same d f n m o = refusesStart d State m
+startBy true true false same d f n m o = refusesStart d State m
+startBy true true true false d f n m o = refusesStart d LentMemory m
+startBy true true true true d f n m o = startsAs (observed d f) n o
 
-if-by : (kind same : Bool) (d : HostController) (c : ℕ) (m : List ℕ) (o : Beginning) → startIf kind same d c m o ≡ startBy true true kind same d c m o
-if-by false same d c m o = refl
-if-by true false d c m o = refl
-if-by true true d c m o = refl
+if-by : (kind same : Bool) (d : HostController) (f : ℕ) (n : NextStart) (m : List ℕ) (o : Beginning) → startIf kind same d f n m o ≡ startBy true true kind same d f n m o
+if-by false same d f n m o = refl
+if-by true false d f n m o = refl
+if-by true true d f n m o = refl
 
-start-by : (d : HostController) (k : StartKind) (buf m log : List ℕ)
-    → let x = fieldsAt d (turnOf d) in startOf d k buf m log ≡ startBy (lentFits m log) (mayStart d (turnOf d)) (ofKind k x) (eqb (length buf) (lengthOf x)) d (turnOf d) m (beginningNow d buf m log)
+start-by : (d : HostController) (k : StartKind) (f : ℕ) (buf m log : List ℕ) → let n = nextIn d f in
+    startOf d k f buf m log ≡ startBy (lentFits m log) (mayStart (observed d f) (n .caller)) (ofKind k (n .fields)) (eqb (length buf) (lengthOf (n .fields))) d f n m (beginningIn d f buf m log)
 unfolding startOf
-start-by d k buf m log = go (lentFits m log) (mayStart d (turnOf d))
+start-by d k f buf m log = go (lentFits m log) (mayStart (observed d f) (n .caller))
   where
-    x : Fields
-    x = fieldsAt d (turnOf d)
+    n : NextStart
+    n = nextIn d f
 
-    go : (l may : Bool) → startLent l (cond may (Ready (record { caller = turnOf d; fields = fieldsAt d (turnOf d) })) Unready) d k buf m log ≡ startBy l may (ofKind k x) (eqb (length buf) (lengthOf x)) d (turnOf d) m (beginningNow d buf m log)
+    go : (l may : Bool) → startLent l (cond may (Ready (record { caller = turnOf (observed d f); fields = fieldsAt d (turnOf (observed d f)) })) Unready) d k f buf m log
+        ≡ startBy l may (ofKind k (n .fields)) (eqb (length buf) (lengthOf (n .fields))) d f n m (beginningIn d f buf m log)
     go false may = refl
     go true false = refl
-    go true true = if-by (ofKind k x) (eqb (length buf) (lengthOf x)) d (turnOf d) m (beginningNow d buf m log)
+    go true true = if-by (ofKind k (n .fields)) (eqb (length buf) (lengthOf (n .fields))) d f n m (beginningIn d f buf m log)
 
-begins : (d : HostController) (k : StartKind) (buf m log : List ℕ) → lentFits m log ≡ true → mayStart d (turnOf d) ≡ true → eqb (length buf) (lengthOf (fieldsAt d (turnOf d))) ≡ true
-    → startOf d k buf m log ≡ startsAs d (turnOf d) (beginningNow d buf m log) → Begins d k buf m log
-begins d k buf m log l may same e =
-    let c = turnOf d in
-    let f = isNone (fieldsRefused (fieldsAt d c)) in
+begins : (d : HostController) (k : StartKind) (f : ℕ) (buf m log : List ℕ) → let n = nextIn d f in lentFits m log ≡ true → mayStart (observed d f) (n .caller) ≡ true
+    → eqb (length buf) (lengthOf (n .fields)) ≡ true → startOf d k f buf m log ≡ startsAs (observed d f) n (beginningIn d f buf m log) → Begins d k f buf m log
+begins d k f buf m log l may same e =
+    let c = turnOf (observed d f) in
+    let v = isNone (fieldsRefused (fieldsAt d c)) in
+    let r = hasRoom (observed d f .dispatcher) c (requestedOf (fieldsAt d c)) in
     let w = pendingAt (d .dispatcher) c in
-    let small = below c (and-left (leb c 7) (w && f) may) in
-    let rest = and-right (leb c 7) (w && f) may in
-    let i = whose-idle (idle d) (dispatcherNow d) small in
+    let small = below c (and-left (leb c 7) (w && (r && v)) may) in
+    let rest = and-right (leb c 7) (w && (r && v)) may in
+    let last = and-right w (r && v) rest in
+    let i = whose-idle (idle d) (observed d f .dispatcher) small in
     record {
       is = e;
       small = small;
       idles = i;
-      pending = and-left w f rest;
-      taken = begin-taken (d .driver .transfer) (fieldsAt d c) buf m log l i (and-right w f rest) (eqb-true (length buf) (lengthOf (fieldsAt d c)) same);
+      pending = and-left w (r && v) rest;
+      room = and-left r v last;
+      taken = begin-taken (d .driver .transfer) (fieldsAt d c) buf m log l i (and-right r v last) (eqb-true (length buf) (lengthOf (fieldsAt d c)) same);
     }
 
-pub start-is : (d : HostController) (k : StartKind) (buf m log : List ℕ) → Start d k buf m log
-start-is d k buf m log = go (lentFits m log) refl (mayStart d (turnOf d)) refl (ofKind k (fieldsAt d (turnOf d))) (eqb (length buf) (lengthOf (fieldsAt d (turnOf d)))) refl (start-by d k buf m log)
+pub start-is : (d : HostController) (k : StartKind) (f : ℕ) (buf m log : List ℕ) → Start d k f buf m log
+start-is d k f buf m log =
+    go (lentFits m log) refl (mayStart (observed d f) (n .caller)) refl (ofKind k (n .fields)) (eqb (length buf) (lengthOf (n .fields))) refl (start-by d k f buf m log)
   where
-    go : (l : Bool) → lentFits m log ≡ l → (may : Bool) → mayStart d (turnOf d) ≡ may → (kind same : Bool) → eqb (length buf) (lengthOf (fieldsAt d (turnOf d))) ≡ same
-        → startOf d k buf m log ≡ startBy l may kind same d (turnOf d) m (beginningNow d buf m log) → Start d k buf m log
+    n : NextStart
+    n = nextIn d f
+
+    go : (l : Bool) → lentFits m log ≡ l → (may : Bool) → mayStart (observed d f) (n .caller) ≡ may → (kind same : Bool) → eqb (length buf) (lengthOf (n .fields)) ≡ same
+        → startOf d k f buf m log ≡ startBy l may kind same d f n m (beginningIn d f buf m log) → Start d k f buf m log
     go false p may q kind same s e = refusedStart LentMemory e
     go true p false q kind same s e = refusedStart State e
     go true p true q false same s e = refusedStart State e
     go true p true q true false s e = refusedStart LentMemory e
-    go true p true q true true s e = takenStart (begins d k buf m log p q s e)
+    go true p true q true true s e = takenStart (begins d k f buf m log p q s e)

@@ -12,20 +12,25 @@ use Rattle.transfers.specs.Reply.{Reply, result, number}
 use Rattle.transfers.specs.State.{served, sound}
 use Rattle.transfers.specs.Calls.{cancelOf, beginControlOf}
 use Rattle.transfers.specs.Driver.{begun, dropped}
+use Rattle.dispatcher.specs.declared.Dispatcher.{Dispatcher}
 use Rattle.dispatcher.specs.Dispatcher.{firstFrom}
 use Rattle.host.specs.declared.fields.Fields.{Fields}
 use Rattle.host.specs.declared.controller.HostController.{HostController}
 use Rattle.host.specs.Reply.{submitReply, Whose, caller, nobodys, turnReply, startReply}
 use Rattle.host.specs.Fields.{controlFields, bulkInFields, bulkOutFields}
-use Rattle.host.specs.Controller.{freshHost, withFields, withDriver}
+use Rattle.host.specs.Controller.{freshHost, withFields, withDispatcher, withDriver}
 use Rattle.host.specs.Submit.{submitOf}
 use Rattle.host.specs.Turn.{whoseTurnOf}
 use Rattle.host.specs.Start.{StartKind, control, bulkIn, bulkOut, Starting, startOf}
 
 -- ---- the calls
 
+-- Shares that no transfer passes, and shares of four bytes.
 abbrev fresh : HostController
-fresh = freshHost One
+fresh = freshHost One (replicate 8 0xFFFF_FFFF)
+
+abbrev few : HostController
+few = freshHost One (replicate 8 4)
 
 abbrev setup : SetupPacket
 setup = record { bmRequestType = 0; bRequest = 9; wValue = 1; wIndex = 0; wLength = 0 }
@@ -35,17 +40,17 @@ abbrev plain : ℕ → Fields
 plain n = controlFields 5 Normal 64 setup None n
 
 abbrev come : HostController → ℕ → Fields → Reply (Unit {0})
-come d c x = submitReply (submitOf d c x .answer)
+come d c x = submitReply (submitOf d c x 1 .answer)
 
 abbrev came : HostController → ℕ → Fields → HostController
-came d c x = submitOf d c x .next
+came d c x = submitOf d c x 1 .next
 
 abbrev look : HostController → Reply Whose
-look d = turnReply (whoseTurnOf d .answer)
+look d = turnReply (whoseTurnOf d 1 .answer)
 
 -- A start with a buffer of n bytes, m bytes of packet memory and a log of l words.
 abbrev starting : HostController → StartKind → ℕ → ℕ → ℕ → Starting
-starting d k n m l = startOf d k (replicate n 0) (replicate m 0) (replicate l 0)
+starting d k n m l = startOf d k 1 (replicate n 0) (replicate m 0) (replicate l 0)
 
 abbrev start : HostController → StartKind → ℕ → ℕ → ℕ → Reply ℕ
 start d k n m l = startReply (starting d k n m l .answer)
@@ -68,6 +73,18 @@ running = started one
 abbrev others : HostController
 others = came (came (came running 1 (plain 1)) 5 (plain 1)) 3 (plain 1)
 
+-- A bulk IN of n bytes, of an address.
+abbrev bulkOf : ℕ → ℕ → Fields
+bulkOf a n = bulkInFields a 2 64 FixedSize false n
+
+-- A control without a data stage whose SETUP asks for w bytes.
+abbrev asking : ℕ → Fields
+asking w = controlFields 5 Normal 64 (record { bmRequestType = 0; bRequest = 9; wValue = 1; wIndex = 0; wLength = w }) None 0
+
+-- Every spent count above its share.
+abbrev forgedUsed : Dispatcher → Dispatcher
+forgedUsed t = record { pending = t .pending; requested = t .requested; quota = replicate 8 3; used = replicate 8 4; turn = t .turn; last = t .last; frame = t .frame }
+
 -- ---- what they answer
 
 pub record Cases : Type 0 where
@@ -79,6 +96,13 @@ pub record Cases : Type 0 where
   pub waits-first : come one 3 (controlFields 128 Normal 64 setup None 1) ≡ number 33
   pub address : come fresh 0 (controlFields 128 Normal 0 setup None 1) ≡ number 12
   pub size : come fresh 0 (controlFields 127 Normal 65 setup None 1) ≡ number 13
+  -- "with 34, right after 33, a transfer larger than its caller's share": wLength, or the bulk buffer's length.
+  pub larger : come few 0 (bulkOf 5 5) ≡ number 34
+  pub as-large : come few 0 (bulkOf 5 4) ≡ result tt
+  pub control-larger : come few 0 (asking 5) ≡ number 34
+  pub control-as-large : come few 0 (asking 4) ≡ result tt
+  pub waits-before-larger : come (came few 0 (bulkOf 5 4)) 0 (bulkOf 5 5) ≡ number 33
+  pub larger-before-address : come few 0 (bulkOf 128 5) ≡ number 34
   -- A control has no 14,
   pub control-long : come fresh 0 (plain 65536) ≡ result tt
   -- a bulk transfer has 11 and 14.
@@ -113,6 +137,8 @@ pub record Cases : Type 0 where
   pub other-way : start (came fresh 3 (bulkInFields 5 2 64 FixedSize false 1)) bulkOut 1 4096 192 ≡ number 16
   -- "or has fields a coming refuses", in a state that was forged
   pub forged : start (withFields one 3 (controlFields 128 Normal 64 setup None 1)) control 1 4096 192 ≡ number 16
+  -- A remainder too small, in a state that was forged: the turn is nobody's.
+  pub forged-spent : start (withDispatcher one (forgedUsed (one .dispatcher))) control 1 4096 192 ≡ number 16
   -- "then with 15 if the buffer's length isn't the one it came with"
   pub other-length : start one control 2 4096 192 ≡ number 15
   pub kind-first : start one bulkIn 2 4096 192 ≡ number 16
@@ -133,6 +159,12 @@ cases = record {
   waits-first = refl;
   address = refl;
   size = refl;
+  larger = refl;
+  as-large = refl;
+  control-larger = refl;
+  control-as-large = refl;
+  waits-before-larger = refl;
+  larger-before-address = refl;
   control-long = refl;
   bulk-address = refl;
   bulk-endpoint = refl;
@@ -157,6 +189,7 @@ cases = record {
   other-kind = refl;
   other-way = refl;
   forged = refl;
+  forged-spent = refl;
   other-length = refl;
   kind-first = refl;
   short-memory = refl;

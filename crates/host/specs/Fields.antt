@@ -37,6 +37,12 @@ lengthOf (Control x) = x .length
 lengthOf (BulkIn x) = x .length
 lengthOf (BulkOut x) = x .length
 
+-- "its full requested bytes ..: wLength or the bulk buffer's length"
+abbrev pub requestedOf : Fields → ℕ
+requestedOf (Control x) = x .setup .wLength
+requestedOf (BulkIn x) = x .length
+requestedOf (BulkOut x) = x .length
+
 -- A bulk coming's 12, 11, 13, 14.
 abbrev pub bulkRefused : BulkFields → OptionRefusal
 bulkRefused x = fieldsRefusal (addressGood (x .address)) (endpointGood (x .endpoint)) (sizeGood (x .size)) (leb (x .length) 0xFFFF)

@@ -3,10 +3,11 @@ use transfers::refusal::Refusal;
 ghost use mathlib.Core.Path.{_≡_};
 ghost use Rattle.host.specs.Refusal.{numberOf};
 
-// 32, 33, then as begin.
+// 32, 33, 34, then as begin.
 pub enum SubmitRefusal {
     Caller,
     Pending,
+    Quota,
     Begin(Refusal),
 }
 
@@ -32,6 +33,7 @@ pub fn number(refusal: SubmitRefusal) -> u8
     match refusal {
         SubmitRefusal::Caller => 32,
         SubmitRefusal::Pending => 33,
+        SubmitRefusal::Quota => 34,
         SubmitRefusal::Begin(e) => transfers::refusal::number(e),
     }
 }

@@ -8,6 +8,7 @@ use crate::fields::Fields;
 use crate::fields::Submission;
 use crate::fields::fields_refused;
 use crate::fields::no_fields;
+use crate::fields::requested;
 use cutting::transfer_type::TransferType;
 use dispatcher::Dispatcher;
 use transfers::driver::DeskRule;
@@ -19,7 +20,7 @@ use transfers::wire::SetupPacket;
 ghost use mathlib.Core.Path.{_≡_};
 ghost use Prim.Native.Nat.{_<_};
 ghost use Rattle.host.specs.Fields.{controlFields, bulkInFields, bulkOutFields};
-ghost use Rattle.host.specs.Controller.{freshHost, idle, fieldsAt, withFields};
+ghost use Rattle.host.specs.Controller.{freshHost, idle, observed, fieldsAt, withFields};
 ghost use Rattle.host.specs.Submit.{submitChecks, submitOf};
 ghost use Rattle.host.specs.Turn.{turnAnswer, whoseTurnOf};
 ghost use Rattle.host.specs.Reply.{submitReply, turnReply};
@@ -53,12 +54,13 @@ fn turn_answer(c: u8) -> TurnAnswer
 }
 
 impl HostController {
-    pub fn new(rule: DeskRule) -> HostController
-        ensures { λ r. ⌜ r ≡ freshHost rule ⌝ }
+    // `quota` is the share of each caller, in bytes a frame.
+    pub fn new(rule: DeskRule, quota: [u32; 8]) -> HostController
+        ensures { λ r. ⌜ r ≡ freshHost rule quota ⌝ }
     {
         HostController {
             driver: Driver::new(rule),
-            dispatcher: Dispatcher::new(),
+            dispatcher: Dispatcher::new(quota),
             submissions: [Submission {
                 fields: no_fields(),
             }; 8],
@@ -93,7 +95,17 @@ impl HostController {
         self
     }
 
-    // 32, 33, then as begin.
+    // As a look in this frame leaves it.
+    pub(crate) fn observed(mut self, frame: u32) -> HostController
+        ensures { λ r. ⌜ r ≡ observed self frame ⌝ }
+    {
+        let t = self.dispatcher;
+        let dispatcher = t.observes(self.is_idle(), frame);
+        self.dispatcher = dispatcher;
+        self
+    }
+
+    // 32, 33, 34, then as begin.
     fn submit_checks(self, caller: u8, fields: Fields) -> SubmitAnswer
         ensures { λ r. ⌜ r ≡ submitChecks self caller fields ⌝ }
     {
@@ -104,6 +116,10 @@ impl HostController {
         if t.pending_at(caller) {
             return SubmitAnswer::Refused(SubmitRefusal::Pending);
         }
+        let quota = t.quota_at(caller);
+        if requested(fields) > quota as usize {
+            return SubmitAnswer::Refused(SubmitRefusal::Quota);
+        }
         let r = fields_refused(fields);
         match r {
             OptionRefusal::None => SubmitAnswer::Accepted,
@@ -112,8 +128,8 @@ impl HostController {
     }
 
     // A coming. A refused one changes nothing.
-    fn submit(mut self, caller: u8, fields: Fields) -> SubmitResult
-        ensures { λ r. ⌜ (r ≡ submitOf self caller fields) × (submitReply (r .answer) ≡ submitRow self caller fields) ⌝ }
+    fn submit(mut self, caller: u8, fields: Fields, frame: u32) -> SubmitResult
+        ensures { λ r. ⌜ (r ≡ submitOf self caller fields frame) × (submitReply (r .answer) ≡ submitRow self caller fields) ⌝ }
     {
         let answer = self.submit_checks(caller, fields);
         let SubmitAnswer::Accepted = answer else {
@@ -123,7 +139,7 @@ impl HostController {
             };
         };
         let t = self.dispatcher;
-        let dispatcher = t.submits(self.is_idle(), caller);
+        let dispatcher = t.submits(self.is_idle(), caller, requested(fields), frame);
         self = self.with_fields(caller, fields);
         self.dispatcher = dispatcher;
         SubmitResult {
@@ -142,8 +158,9 @@ impl HostController {
         setup: SetupPacket,
         phase: DataPhase,
         length: usize,
+        frame: u32,
     ) -> SubmitResult
-        ensures { λ r. ⌜ (r ≡ submitOf self caller (controlFields address extras size setup phase length))
+        ensures { λ r. ⌜ (r ≡ submitOf self caller (controlFields address extras size setup phase length) frame)
             × (submitReply (r .answer) ≡ submitRow self caller (controlFields address extras size setup phase length)) ⌝ }
     {
         self.submit(
@@ -156,6 +173,7 @@ impl HostController {
                 phase: phase,
                 length: length,
             }),
+            frame,
         )
     }
 
@@ -169,8 +187,9 @@ impl HostController {
         kind: TransferType,
         toggle: bool,
         length: usize,
+        frame: u32,
     ) -> SubmitResult
-        ensures { λ r. ⌜ (r ≡ submitOf self caller (bulkInFields address endpoint size kind toggle length))
+        ensures { λ r. ⌜ (r ≡ submitOf self caller (bulkInFields address endpoint size kind toggle length) frame)
             × (submitReply (r .answer) ≡ submitRow self caller (bulkInFields address endpoint size kind toggle length)) ⌝ }
     {
         self.submit(
@@ -183,6 +202,7 @@ impl HostController {
                 toggle: toggle,
                 length: length,
             }),
+            frame,
         )
     }
 
@@ -196,8 +216,9 @@ impl HostController {
         kind: TransferType,
         toggle: bool,
         length: usize,
+        frame: u32,
     ) -> SubmitResult
-        ensures { λ r. ⌜ (r ≡ submitOf self caller (bulkOutFields address endpoint size kind toggle length))
+        ensures { λ r. ⌜ (r ≡ submitOf self caller (bulkOutFields address endpoint size kind toggle length) frame)
             × (submitReply (r .answer) ≡ submitRow self caller (bulkOutFields address endpoint size kind toggle length)) ⌝ }
     {
         self.submit(
@@ -210,20 +231,19 @@ impl HostController {
                 toggle: toggle,
                 length: length,
             }),
+            frame,
         )
     }
 
     // A look, never refused.
-    pub fn whose_turn(mut self) -> TurnResult
-        ensures { λ r. ⌜ (r ≡ whoseTurnOf self) × (turnReply (r .answer) ≡ turnRow self) ⌝ }
+    pub fn whose_turn(self, frame: u32) -> TurnResult
+        ensures { λ r. ⌜ (r ≡ whoseTurnOf self frame) × (turnReply (r .answer) ≡ turnRow self frame) ⌝ }
     {
-        let idle = self.is_idle();
-        let t = self.dispatcher;
-        let dispatcher = t.settled(idle);
-        self.dispatcher = dispatcher;
+        let now = self.observed(frame);
+        let t = now.dispatcher;
         TurnResult {
-            next: self,
-            answer: turn_answer(dispatcher.whose(idle)),
+            next: now,
+            answer: turn_answer(t.whose(now.is_idle())),
         }
     }
 }

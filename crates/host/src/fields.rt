@@ -7,7 +7,7 @@ use transfers::refusal::OptionRefusal;
 use transfers::state::endpoint_good;
 use transfers::wire::SetupPacket;
 ghost use mathlib.Core.Path.{_≡_};
-ghost use Rattle.host.specs.Fields.{noFields, bulkRefused, fieldsRefused};
+ghost use Rattle.host.specs.Fields.{noFields, requestedOf, bulkRefused, fieldsRefused};
 
 pub struct ControlFields {
     pub address: u8,
@@ -57,6 +57,17 @@ pub(crate) fn no_fields() -> Fields
         phase: DataPhase::In,
         length: 0,
     })
+}
+
+// What the transfer is charged: wLength, or the bulk buffer's length.
+pub(crate) fn requested(x: Fields) -> usize
+    ensures { λ r. ⌜ r ≡ requestedOf x ⌝ }
+{
+    match x {
+        Fields::Control(y) => y.setup.wLength as usize,
+        Fields::BulkIn(y) => y.length,
+        Fields::BulkOut(y) => y.length,
+    }
 }
 
 fn bulk_refused(x: BulkFields) -> OptionRefusal

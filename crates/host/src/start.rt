@@ -1,8 +1,9 @@
-// Starts: what begin did, with the fields that the caller whose turn it is came with.
+// Starts: what begin did, with the fields that the caller whose turn it is came with. A start begins with a look; a refused one changes nothing.
 use crate::answers::StartAnswer;
 use crate::controller::HostController;
 use crate::fields::Fields;
 use crate::fields::fields_refused;
+use crate::fields::requested;
 use transfers::answers::Armed;
 use transfers::answers::OptionOut;
 use transfers::answers::OptionSetup;
@@ -50,14 +51,12 @@ fn refuse_start(d: HostController, e: Refusal) -> StartResult
 }
 
 impl HostController {
-    // All of 16 but the call's kind.
+    // Who starts after a look: all of 16 but the call's kind.
     fn next_start(self) -> OptionStart
         ensures { λ r. ⌜ r ≡ nextStart self ⌝ }
     {
-        let idle = self.is_idle();
         let t = self.dispatcher;
-        let now = t.settled(idle);
-        let c = now.whose(idle);
+        let c = t.whose(self.is_idle());
         if c > 7 {
             return OptionStart::Unready;
         }
@@ -65,6 +64,9 @@ impl HostController {
             return OptionStart::Unready;
         }
         let x = self.fields_at(c);
+        if !t.has_room(c, requested(x)) {
+            return OptionStart::Unready;
+        }
         let r = fields_refused(x);
         match r {
             OptionRefusal::Some(_) => OptionStart::Unready,
@@ -75,33 +77,35 @@ impl HostController {
         }
     }
 
-    // The transfer of c has begun.
-    fn started(mut self, c: u8, b: Begun) -> StartResult
-        ensures { λ r. ⌜ r ≡ startedBy self c b ⌝ }
+    // The transfer of n has begun, and its bytes are charged.
+    fn started(mut self, n: NextStart, b: Begun) -> StartResult
+        ensures { λ r. ⌜ r ≡ startedBy self n b ⌝ }
     {
         let t = self.dispatcher;
-        let dispatcher = t.starts(c);
+        let x = n.fields;
+        let dispatcher = t.starts(n.caller, requested(x));
         let driver = b.next;
         let armed = b.armed;
         self.driver = driver;
         self.dispatcher = dispatcher;
         StartResult {
             next: self,
-            answer: StartAnswer::Started(c),
+            answer: StartAnswer::Started(n.caller),
             armed: armed,
             writes: b.writes,
         }
     }
 
     // A control transfer starts.
-    pub fn start_control(self, buf: &[u8], pm: &[u8], log: &mut [u32]) -> StartResult
-        ensures { λ r. ⌜ DidStart (startOf self StartKind.control (now (buf .entry)) (now (pm .entry)) (now (log .entry))) (now (log .entry)) r (now (pm .entry)) (now (log .exit))
-            × (startReply (r .answer) ≡ startRow self StartKind.control (now (buf .entry)) (now (pm .entry)) (now (log .entry))) ⌝ }
+    pub fn start_control(self, frame: u32, buf: &[u8], pm: &[u8], log: &mut [u32]) -> StartResult
+        ensures { λ r. ⌜ DidStart (startOf self StartKind.control frame (now (buf .entry)) (now (pm .entry)) (now (log .entry))) (now (log .entry)) r (now (pm .entry)) (now (log .exit))
+            × (startReply (r .answer) ≡ startRow self StartKind.control frame (now (buf .entry)) (now (pm .entry)) (now (log .entry))) ⌝ }
     {
         if !lent_fits(pm, log) {
             return refuse_start(self, Refusal::LentMemory);
         }
-        let next = self.next_start();
+        let now = self.observed(frame);
+        let next = now.next_start();
         let OptionStart::Ready(n) = next else {
             return refuse_start(self, Refusal::State);
         };
@@ -112,23 +116,24 @@ impl HostController {
         if buf.len() != y.length {
             return refuse_start(self, Refusal::LentMemory);
         }
-        let d = self.driver;
+        let d = now.driver;
         let extras = y.extras;
         let setup = y.setup;
         let phase = y.phase;
         let b = d.begin_control(y.address, extras, y.size, setup, phase, buf, pm, log);
-        self.started(n.caller, b)
+        now.started(n, b)
     }
 
     // A bulk IN transfer starts.
-    pub fn start_bulk_in(self, buf: &[u8], pm: &[u8], log: &mut [u32]) -> StartResult
-        ensures { λ r. ⌜ DidStart (startOf self StartKind.bulkIn (now (buf .entry)) (now (pm .entry)) (now (log .entry))) (now (log .entry)) r (now (pm .entry)) (now (log .exit))
-            × (startReply (r .answer) ≡ startRow self StartKind.bulkIn (now (buf .entry)) (now (pm .entry)) (now (log .entry))) ⌝ }
+    pub fn start_bulk_in(self, frame: u32, buf: &[u8], pm: &[u8], log: &mut [u32]) -> StartResult
+        ensures { λ r. ⌜ DidStart (startOf self StartKind.bulkIn frame (now (buf .entry)) (now (pm .entry)) (now (log .entry))) (now (log .entry)) r (now (pm .entry)) (now (log .exit))
+            × (startReply (r .answer) ≡ startRow self StartKind.bulkIn frame (now (buf .entry)) (now (pm .entry)) (now (log .entry))) ⌝ }
     {
         if !lent_fits(pm, log) {
             return refuse_start(self, Refusal::LentMemory);
         }
-        let next = self.next_start();
+        let now = self.observed(frame);
+        let next = now.next_start();
         let OptionStart::Ready(n) = next else {
             return refuse_start(self, Refusal::State);
         };
@@ -139,21 +144,28 @@ impl HostController {
         if buf.len() != y.length {
             return refuse_start(self, Refusal::LentMemory);
         }
-        let d = self.driver;
+        let d = now.driver;
         let kind = y.kind;
         let b = d.begin_bulk_in(y.address, y.endpoint, y.size, kind, y.toggle, buf, pm, log);
-        self.started(n.caller, b)
+        now.started(n, b)
     }
 
     // A bulk OUT transfer starts: its first packets are stored in packet memory.
-    pub fn start_bulk_out(self, buf: &[u8], pm: &mut [u8], log: &mut [u32]) -> StartResult
-        ensures { λ r. ⌜ DidStart (startOf self StartKind.bulkOut (now (buf .entry)) (now (pm .entry)) (now (log .entry))) (now (log .entry)) r (now (pm .exit)) (now (log .exit))
-            × (startReply (r .answer) ≡ startRow self StartKind.bulkOut (now (buf .entry)) (now (pm .entry)) (now (log .entry))) ⌝ }
+    pub fn start_bulk_out(
+        self,
+        frame: u32,
+        buf: &[u8],
+        pm: &mut [u8],
+        log: &mut [u32],
+    ) -> StartResult
+        ensures { λ r. ⌜ DidStart (startOf self StartKind.bulkOut frame (now (buf .entry)) (now (pm .entry)) (now (log .entry))) (now (log .entry)) r (now (pm .exit)) (now (log .exit))
+            × (startReply (r .answer) ≡ startRow self StartKind.bulkOut frame (now (buf .entry)) (now (pm .entry)) (now (log .entry))) ⌝ }
     {
         if !lent_fits(pm, log) {
             return refuse_start(self, Refusal::LentMemory);
         }
-        let next = self.next_start();
+        let now = self.observed(frame);
+        let next = now.next_start();
         let OptionStart::Ready(n) = next else {
             return refuse_start(self, Refusal::State);
         };
@@ -164,9 +176,9 @@ impl HostController {
         if buf.len() != y.length {
             return refuse_start(self, Refusal::LentMemory);
         }
-        let d = self.driver;
+        let d = now.driver;
         let kind = y.kind;
         let b = d.begin_bulk_out(y.address, y.endpoint, y.size, kind, y.toggle, buf, pm, log);
-        self.started(n.caller, b)
+        now.started(n, b)
     }
 }

@@ -133,7 +133,7 @@ comes rule f r h =
     }
 
 pub term3 : Term3 driverCalls
-term3 = record { unbroken = unbroken; comes = comes; recorded = recorded; table = λ rule cs f. table rule f cs; stages = stages }
+term3 = record { unbroken = unbroken; comes = λ rule ample. comes rule; recorded = recorded; table = λ rule cs f. table rule f cs; stages = stages }
 
 pub in-bytes : InBytes driverCalls
 in-bytes = record { answered = answered; counts = counts-small; written = written-back; room = room; read = read }

@@ -11,10 +11,11 @@ use Rattle.record.specs.Table.{TableFrom}
 use Rattle.record.specs.Kept.{AllLent}
 use Rattle.record.specs.Term3.{Interface}
 
--- A driver is made with a desk rule.
+-- A driver is made with a desk rule, either.
 abbrev pub driverCalls : Interface
 driverCalls = record {
   Made = DeskRule;
+  Ample = λ rule. Unit {0};
   Call = Call;
   AllTyped = AllTyped;
   AllLent = AllLent;

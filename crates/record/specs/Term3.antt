@@ -23,9 +23,11 @@ use Rattle.record.specs.Items.{Accepted, firstAt, itemsFrom, answersFor,
 -- ---- the lists of calls, and what they show
 
 -- An interface: what its driver is made with, its calls, and of a list of them: that the program's types allow it, that it lends packet memory of 4,096 bytes, what it
--- shows from a fresh driver, what its calls answer besides (`Table`), and that nothing that leads to a transfer and no step is refused (`Unrefused`).
+-- shows from a fresh driver, what its calls answer besides (`Table`), and that nothing that leads to a transfer and no step is refused (`Unrefused`). `Ample` is what a
+-- driver has to be made with so that every record comes from some list.
 pub record Interface : Type 1 where
   pub Made : Type 0
+  pub Ample : Made → Type 0
   pub Call : Type 0
   pub AllTyped : List Call → Type 0
   pub AllLent : List Call → Type 0
@@ -96,7 +98,7 @@ pub record Recorded (f : File) (os : List Shown) : Type 0 where
 -- OUT packets were armed (`stages`).
 pub record Term3 (k : Interface) : Type 0 where
   pub unbroken : (made : k .Made) (f : File) (cs : List (k .Call)) → k .AllTyped cs → let os = k .shows made cs in Premises f os → brokenOf (fates f os) ≡ [] → Unbroken f os
-  pub comes : (made : k .Made) (f : File) (r : List Entry) → PlainReading r → ComesFrom k made f r
+  pub comes : (made : k .Made) → k .Ample made → (f : File) (r : List Entry) → PlainReading r → ComesFrom k made f r
   pub recorded : (made : k .Made) (f : File) (cs : List (k .Call)) → k .AllTyped cs → let os = k .shows made cs in Premises f os → Recorded f os
   pub table : (made : k .Made) (cs : List (k .Call)) → k .Table made cs
   pub stages : (made : k .Made) (f : File) (cs : List (k .Call)) → k .AllTyped cs → StagesFrom false (untold f) (k .shows made cs)

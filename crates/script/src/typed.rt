@@ -88,8 +88,8 @@ pub fn half_at(line: &[u8], k: usize) -> OptionHalf
     }
 }
 
-// A register's word.
-pub(crate) fn word_at(line: &[u8], k: usize) -> OptionWord
+// A number up to 4,294,967,295.
+pub fn word_at(line: &[u8], k: usize) -> OptionWord
     ensures { λ r. ⌜ r ≡ wordAt (now (line .entry)) k ⌝ }
 {
     let f = number(field(line, k), 0xFFFF_FFFF);

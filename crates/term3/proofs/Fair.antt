@@ -2,22 +2,22 @@
 use mathlib.Core.Path.{_≡_, refl, sym, ap, subst, _∙_}
 use mathlib.Core.Bool.{Bool, true, false, cond}
 use mathlib.Core.List.{List}
-use Prim.Native.Nat.{ℕ}
+use Prim.Native.Nat.{ℕ, _<_}
 use lib.Dec.{leb}
 use Rattle.transfers.specs.declared.refusal.OptionRefusal.{OptionRefusal}
 use Rattle.transfers.specs.declared.refusal.OptionRefusal.the-variants.{Some, None}
 use Rattle.transfers.specs.Calls.{isIdle}
 use Rattle.dispatcher.specs.declared.Dispatcher.{Dispatcher}
-use Rattle.dispatcher.specs.Dispatcher.{pendingAt, passes, current, submits, starts}
+use Rattle.dispatcher.specs.Dispatcher.{pendingAt, requestedAt, quotaAt, fits, passes, current, submits, observes, starts}
 use Rattle.dispatcher.specs.Events.{Event, submitted, observed, started, ended, nothing, moved, idleAfter, Allowed}
 use Rattle.dispatcher.proofs.Rounds.{below}
-use Rattle.dispatcher.proofs.Turning.{Good, move-good}
+use Rattle.dispatcher.proofs.Turning.{Good, look-good, move-good}
 use Rattle.dispatcher.proofs.Passing.{current-ended, current-same}
 use Rattle.host.specs.declared.answers.SubmitAnswer.the-variants.{Accepted, Refused as refusedSubmit}
 use Rattle.host.specs.declared.answers.StartAnswer.the-variants.{Started, Refused as startRefused}
 use Rattle.host.specs.declared.controller.HostController.{HostController}
-use Rattle.host.specs.Fields.{fieldsRefused}
-use Rattle.host.specs.Controller.{idle, dispatcherNow, turnOf, withDriver}
+use Rattle.host.specs.Fields.{requestedOf, fieldsRefused}
+use Rattle.host.specs.Controller.{idle, dispatcherNow, fieldsAt, observed as lookedAt, turnOf, withDriver}
 use Rattle.host.specs.Submit.{submitAnswer, submitNext, submitOf}
 use Rattle.host.specs.Turn.{whoseTurnOf}
 use Rattle.host.specs.Start.{StartKind, Starting, startOf}
@@ -31,11 +31,11 @@ use Rattle.term3.proofs.Ends.{ends-busy, idle-after}
 
 -- The event that a call and its answer tell.
 abbrev pub eventOf : (c : Call) → Answer c → Event
-eventOf (submit c x n) Accepted = submitted c
-eventOf (submit c x n) (refusedSubmit why) = nothing
-eventOf whoseTurn a = observed
-eventOf (start k buf m log) (Started c) = started c
-eventOf (start k buf m log) (startRefused why) = nothing
+eventOf (submit c x n f) Accepted = submitted c (requestedOf (fieldsOf x n)) f
+eventOf (submit c x n f) (refusedSubmit why) = nothing
+eventOf (whoseTurn f) a = observed f
+eventOf (start k f buf m log) (Started c) = started c f
+eventOf (start k f buf m log) (startRefused why) = nothing
 eventOf (driver c b) a = cond (isEnd (note c a)) ended nothing
 
 pub record Fair (d e : HostController) (x : Event) : Type 0 where
@@ -51,35 +51,53 @@ good-next d e x f g =
 fair-nothing : (d : HostController) → Fair d d nothing
 fair-nothing d = record { allowed = tt; dispatcher = refl; idles = refl }
 
-submit-fair : (d : HostController) (c : ℕ) (x : Begin) (n : ℕ) → Good (idle d) (dispatcherNow d) → let o = submitOf d c (fieldsOf x n) in Fair d (o .next) (eventOf (submit c x n) (o .answer))
+submit-fair : (d : HostController) (c : ℕ) (x : Begin) (n f : ℕ) → Good (idle d) (dispatcherNow d) → let o = submitOf d c (fieldsOf x n) f in Fair d (o .next) (eventOf (submit c x n f) (o .answer))
 unfolding submitOf
-submit-fair d c x n g = go (leb c 7) refl (pendingAt (d .dispatcher) c) refl (fieldsRefused (fieldsOf x n))
+submit-fair d c x n f g = go (leb c 7) refl (pendingAt (d .dispatcher) c) refl (leb (requestedOf (fieldsOf x n)) (quotaAt (d .dispatcher) c)) (fieldsRefused (fieldsOf x n))
   where
-    go : (a : Bool) → leb c 7 ≡ a → (w : Bool) → pendingAt (d .dispatcher) c ≡ w → (r : OptionRefusal)
-        → Fair d (submitNext (submitAnswer a w r) d c (fieldsOf x n)) (eventOf (submit c x n) (submitAnswer a w r))
-    go false p w q r = fair-nothing d
-    go true p true q r = fair-nothing d
-    go true p false q (Some why) = fair-nothing d
-    go true p false q None =
+    go : (a : Bool) → leb c 7 ≡ a → (w : Bool) → pendingAt (d .dispatcher) c ≡ w → (q : Bool) (r : OptionRefusal)
+        → Fair d (submitNext (submitAnswer a w q r) d c (fieldsOf x n) f) (eventOf (submit c x n f) (submitAnswer a w q r))
+    go false p w e q r = fair-nothing d
+    go true p true e q r = fair-nothing d
+    go true p false e false r = fair-nothing d
+    go true p false e true (Some why) = fair-nothing d
+    go true p false e true None =
         let u = dispatcherNow d in
+        let b = requestedOf (fieldsOf x n) in
         record {
-          allowed = (below c p, q);
-          dispatcher = current-same (idle d) (submits (idle d) u c) (move-good (idle d) u (submitted c) (below c p, q) g);
+          allowed = (below c p, e);
+          dispatcher = current-same (idle d) (submits (idle d) u c b f) (move-good (idle d) u (submitted c b f) (below c p, e) g);
           idles = refl;
         }
 
-look-fair : (d : HostController) → Good (idle d) (dispatcherNow d) → Fair d (whoseTurnOf d .next) observed
+look-fair : (d : HostController) (f : ℕ) → Good (idle d) (dispatcherNow d) → Fair d (whoseTurnOf d f .next) (observed f)
 unfolding whoseTurnOf
-look-fair d g = record { allowed = tt; dispatcher = current-same (idle d) (dispatcherNow d) g; idles = refl }
+look-fair d f g = record { allowed = tt; dispatcher = current-same (idle d) (observes (idle d) (dispatcherNow d) f) (look-good (idle d) (dispatcherNow d) f g); idles = refl }
 
-start-fair : (d : HostController) (k : StartKind) (buf m log : List ℕ) → let o = startOf d k buf m log in Fair d (o .next) (eventOf (start k buf m log) (o .answer))
-start-fair d k buf m log = go (start-is d k buf m log)
+-- What is stored of the bytes that each caller that waits asks for is what it came with.
+abbrev pub Asks : HostController → Type 0
+Asks d = (c : ℕ) → c < 8 → pendingAt (d .dispatcher) c ≡ true → requestedOf (fieldsAt d c) ≡ requestedAt (d .dispatcher) c
+
+start-fair : (d : HostController) (k : StartKind) (f : ℕ) (buf m log : List ℕ) → Good (idle d) (dispatcherNow d) → Asks d → let o = startOf d k f buf m log in Fair d (o .next) (eventOf (start k f buf m log) (o .answer))
+start-fair d k f buf m log g asks = go (start-is d k f buf m log)
   where
-    go : Start d k buf m log → let o = startOf d k buf m log in Fair d (o .next) (eventOf (start k buf m log) (o .answer))
-    go (refusedStart why e) = subst (λ (o : Starting). Fair d (o .next) (eventOf (start k buf m log) (o .answer))) (sym e) (fair-nothing d)
+    u : Dispatcher
+    u = observes (idle d) (dispatcherNow d) f
+
+    go : Start d k f buf m log → let o = startOf d k f buf m log in Fair d (o .next) (eventOf (start k f buf m log) (o .answer))
+    go (refusedStart why e) = subst (λ (o : Starting). Fair d (o .next) (eventOf (start k f buf m log) (o .answer))) (sym e) (fair-nothing d)
     go (takenStart b) =
-        subst (λ (o : Starting). Fair d (o .next) (eventOf (start k buf m log) (o .answer))) (sym (b .is))
-        (record { allowed = (b .idles, b .small, refl, b .pending); dispatcher = ap (λ (i : Bool). current i (starts (dispatcherNow d) (turnOf d))) (b .taken .busy); idles = b .taken .busy })
+        let c = turnOf (lookedAt d f) in
+        let same = asks c (b .small) (b .pending) in
+        let turn : u .turn ≡ c = sym (ap (λ (i : Bool). cond i (u .turn) 8) (b .idles)) in
+        let small : u .turn < 8 = subst (λ (n : ℕ). n < 8) (sym turn) (b .small) in
+        let fit = subst (λ (n : ℕ). fits u n ≡ true) turn (look-good (idle d) (dispatcherNow d) f g .pre .held (b .idles) small) in
+        subst (λ (o : Starting). Fair d (o .next) (eventOf (start k f buf m log) (o .answer))) (sym (b .is))
+        (record {
+          allowed = (b .idles, b .small, refl, fit);
+          dispatcher = ap (λ (i : Bool). current i (starts u c (requestedOf (fieldsAt d c)))) (b .taken .busy) ∙ ap (starts u c) same;
+          idles = b .taken .busy;
+        })
 
 driver-fair : (d : HostController) (c : D.Call) (b : isBegin c ≡ false) → Good (idle d) (dispatcherNow d) → let o = D.call (d .driver) c in Fair d (withDriver d (o .next)) (eventOf (driver c b) (o .answer))
 driver-fair d c b g = go (isEnd (note c (o .answer))) refl
@@ -105,9 +123,9 @@ driver-fair d c b g = go (isEnd (note c (o .answer))) refl
 
 -- ---- every call
 
-pub fair : (d : HostController) (c : Call) → Good (idle d) (dispatcherNow d) → let o = call d c in Fair d (o .next) (eventOf c (o .answer))
+pub fair : (d : HostController) (c : Call) → Good (idle d) (dispatcherNow d) → Asks d → let o = call d c in Fair d (o .next) (eventOf c (o .answer))
 unfolding call
-fair d (submit c x n) g = submit-fair d c x n g
-fair d whoseTurn g = look-fair d g
-fair d (start k buf m log) g = start-fair d k buf m log
-fair d (driver c b) g = driver-fair d c b g
+fair d (submit c x n f) g a = submit-fair d c x n f g
+fair d (whoseTurn f) g a = look-fair d f g
+fair d (start k f buf m log) g a = start-fair d k f buf m log g a
+fair d (driver c b) g a = driver-fair d c b g

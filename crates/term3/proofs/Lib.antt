@@ -1,10 +1,14 @@
 pub mod Ends
 pub mod Fair
+pub mod Same
 pub mod Agreeing
 pub mod Table
 pub mod Shadow
-pub mod Lifting
+pub mod Looking
+pub mod Seven
 pub mod Turns
+pub mod Framing
+pub mod Lifting
 pub mod Driven
 pub mod Term3
 pub mod Tied

@@ -9,9 +9,9 @@ use Rattle.term3.specs.Ties.{Ties}
 pub tied : Ties
 unfolding call
 tied = record {
-  submits = λ d c x n r e. (ap (λ (s : SubmitResult). s .next) e, ap (λ (s : SubmitResult). s .answer) e);
-  looks = λ d r e. (ap (λ (s : TurnResult). s .next) e, ap (λ (s : TurnResult). s .answer) e);
-  starts = λ d k buf m log r m′ l′ h. (
+  submits = λ d c x n f r e. (ap (λ (s : SubmitResult). s .next) e, ap (λ (s : SubmitResult). s .answer) e);
+  looks = λ d f r e. (ap (λ (s : TurnResult). s .next) e, ap (λ (s : TurnResult). s .answer) e);
+  starts = λ d k f buf m log r m′ l′ h. (
     ap (λ (s : StartResult). s .next) (h .result),
     ap (λ (s : StartResult). s .answer) (h .result),
     ap (λ (s : StartResult). s .armed) (h .result),

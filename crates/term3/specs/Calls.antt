@@ -1,4 +1,5 @@
--- The calls of term 3 with request R-9: "A start .. does what begin did and takes its place in term 3, whose calls comings and looks join."
+-- The calls of term 3 with request R-9: "A start .. does what begin did and takes its place in term 3, whose calls comings and looks join." With R-10 "every coming, look
+-- and start brings the frame number".
 use mathlib.Core.Path.{_≡_}
 use mathlib.Core.Bool.{Bool, true, false}
 use mathlib.Core.List.{List, []}
@@ -33,19 +34,19 @@ isBegin (pollPipe n y m log) = false
 isBegin (interrupt ints status log) = false
 isBegin (detect sie log) = false
 
--- A coming: a caller's transfer, "which comes with begin's fields and its buffer's length alone"; a look; a start, of its kind, is lent a buffer, packet memory and a
--- log; the other calls are the driver's own.
+-- A coming: a caller's transfer, "which comes with begin's fields and its buffer's length alone", and the frame number; a look, with the frame number; a start, of its
+-- kind, with the frame number, is lent a buffer, packet memory and a log; the other calls are the driver's own.
 pub data Call : Type 0 where
-  submit : ℕ → Begin → ℕ → Call
-  whoseTurn : Call
-  start : StartKind → List ℕ → List ℕ → List ℕ → Call
+  submit : ℕ → Begin → ℕ → ℕ → Call
+  whoseTurn : ℕ → Call
+  start : StartKind → ℕ → List ℕ → List ℕ → List ℕ → Call
   driver : (c : D.Call) → isBegin c ≡ false → Call
 
 -- The answers of a call: results and refusals.
 abbrev pub Answer : Call → Type 0
-Answer (submit c x n) = SubmitAnswer
-Answer whoseTurn = TurnAnswer
-Answer (start k buf m log) = StartAnswer
+Answer (submit c x n f) = SubmitAnswer
+Answer (whoseTurn f) = TurnAnswer
+Answer (start k f buf m log) = StartAnswer
 Answer (driver c e) = D.Answer c
 
 -- What a call does: the next state and the answer, and as of the driver's calls the writes, packet memory, what was armed, and the count of a transfer that failed.
@@ -65,7 +66,7 @@ fieldsOf (bulkBegin Out a e p k b) n = bulkOutFields a e p k b n
 
 -- A call, by the definitions that the functions are proved equal to. A coming and a look are lent nothing. A call of the driver changes nothing else.
 unfoldable pub call : HostController → (c : Call) → Effect c
-call d (submit c x n) = let o = submitOf d c (fieldsOf x n) in record { next = o .next; answer = o .answer; writes = []; memory = []; armed = nothingArmed; failed = noCount }
-call d whoseTurn = let o = whoseTurnOf d in record { next = o .next; answer = o .answer; writes = []; memory = []; armed = nothingArmed; failed = noCount }
-call d (start k buf m log) = let o = startOf d k buf m log in record { next = o .next; answer = o .answer; writes = o .writes; memory = o .memory; armed = o .armed; failed = noCount }
+call d (submit c x n f) = let o = submitOf d c (fieldsOf x n) f in record { next = o .next; answer = o .answer; writes = []; memory = []; armed = nothingArmed; failed = noCount }
+call d (whoseTurn f) = let o = whoseTurnOf d f in record { next = o .next; answer = o .answer; writes = []; memory = []; armed = nothingArmed; failed = noCount }
+call d (start k f buf m log) = let o = startOf d k f buf m log in record { next = o .next; answer = o .answer; writes = o .writes; memory = o .memory; armed = o .armed; failed = noCount }
 call d (driver c e) = let o = D.call (d .driver) c in record { next = withDriver d (o .next); answer = o .answer; writes = o .writes; memory = o .memory; armed = o .armed; failed = o .failed }

@@ -1,6 +1,7 @@
 -- The root of the specification, in reading order.
 pub mod Example
 pub mod Turns
+pub mod Frames
 pub mod Calls
 pub mod Callers
 pub mod Table

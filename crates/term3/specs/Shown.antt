@@ -16,9 +16,9 @@ startNote t (refusedStart why) buf = nothing
 
 -- A coming and a look are lent no log and no memory: there is nothing to show. A start shows what a begin does; the driver's calls what they do there.
 abbrev pub shown : Callers → (c : Call) → Effect c → List Shown
-shown t (submit c x n) o = []
-shown t whoseTurn o = []
-shown t (start k buf m log) o =
+shown t (submit c x n f) o = []
+shown t (whoseTurn f) o = []
+shown t (start k f buf m log) o =
     record { note = startNote t (o .answer) buf; writes = o .writes; memory = o .memory; armed = o .armed; failed = o .failed; writer = itsMemory } ∷ []
 shown t (driver c e) o =
     record { note = D.note c (o .answer); writes = o .writes; memory = o .memory; armed = o .armed; failed = o .failed; writer = D.writerAfter c } ∷ []

@@ -14,15 +14,16 @@ use Rattle.host.specs.Start.{StartKind, control, bulkIn, bulkOut}
 use Rattle.record.specs.Calls.{Begin, controlBegin, bulkBegin}
 use Rattle.record.specs.Table.{fieldsRow}
 use Rattle.term3.specs.Calls.{Call, submit, whoseTurn, start, driver, Answer, call}
-use Rattle.term3.specs.Callers.{Callers, whose, hears}
+use Rattle.term3.specs.Callers.{Callers, requestedBy, whose, looks, hears}
 
--- "A coming refuses with 32 a caller above 7, then with 33 a caller that already waits, then as begin does, save that 8 no longer occurs."
+-- "A coming refuses with 32 a caller above 7, then with 33 a caller that already waits, then as begin does, save that 8 no longer occurs.", and "with 34, right after 33, a
+-- transfer larger than its caller's share".
 abbrev pub comingRow : Callers → ℕ → Begin → ℕ → Reply (Unit {0})
-comingRow t c x n = unless (leb c 7) 32 (unless (not (t .waits c)) 33 (fieldsRow x n))
+comingRow t c x n = unless (leb c 7) 32 (unless (not (t .waits c)) 33 (unless (leb (requestedBy x n) (t .share c)) 34 (fieldsRow x n)))
 
 -- "A look, never refused, answers whose turn it is"
-abbrev pub turnRow : Callers → Reply Whose
-turnRow t = let c = whose t in result (cond (leb c 7) (caller c) nobodys)
+abbrev pub turnRow : Callers → ℕ → Reply Whose
+turnRow t f = let c = whose (looks t f) in result (cond (leb c 7) (caller c) nobodys)
 
 -- No number.
 abbrev pub isResult : {A : Type 0} → Reply A → Bool
@@ -42,18 +43,18 @@ ofKind bulkOut (bulkBegin Out a e p k t) = true
 
 -- A start answers the caller whose transfer it is. Before its own checks 15 for what is lent; "It is refused with 16 if a transfer is under way, if nobody has the turn
 -- or if that caller's transfer isn't of this call's kind or has fields a coming refuses, then with 15 if the buffer's length isn't the one it came with."
-abbrev pub startRow : Callers → StartKind → List ℕ → List ℕ → List ℕ → Reply ℕ
-startRow t k buf m log =
-    let c = whose t in
+abbrev pub startRow : Callers → StartKind → ℕ → List ℕ → List ℕ → List ℕ → Reply ℕ
+startRow t k f buf m log =
+    let c = whose (looks t f) in
     let x = t .came c in
     unless (eqb (length m) 4096 && leb 192 (length log)) 15
     (unless (leb c 7 && (ofKind k (x .fields) && isResult (fieldsRow (x .fields) (x .length)))) 16 (unless (eqb (length buf) (x .length)) 15 (result c)))
 
 -- A call answers what its row says.
 abbrev pub Row : Callers → (c : Call) → Answer c → Type 0
-Row t (submit c x n) a = submitReply a ≡ comingRow t c x n
-Row t whoseTurn a = turnReply a ≡ turnRow t
-Row t (start k buf m log) a = startReply a ≡ startRow t k buf m log
+Row t (submit c x n f) a = submitReply a ≡ comingRow t c x n
+Row t (whoseTurn f) a = turnReply a ≡ turnRow t f
+Row t (start k f buf m log) a = startReply a ≡ startRow t k f buf m log
 Row t (driver c e) a = Unit {0}
 
 -- Along a list of calls.

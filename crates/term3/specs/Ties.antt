@@ -26,9 +26,9 @@ use Rattle.term3.specs.Calls.{isBegin, submit, whoseTurn, start, driver,
 
 -- A coming, a look and a start; and that the driver's calls, which `Ties` of record ties, change the field `driver` and nothing else.
 pub record Ties : Type 0 where
-  pub submits : (d : HostController) (c : ℕ) (x : Begin) (n : ℕ) (r : SubmitResult) → r ≡ submitOf d c (fieldsOf x n) → let o = call d (submit c x n) in (r .next ≡ o .next) × (r .answer ≡ o .answer)
-  pub looks : (d : HostController) (r : TurnResult) → r ≡ whoseTurnOf d → let o = call d whoseTurn in (r .next ≡ o .next) × (r .answer ≡ o .answer)
-  pub starts : (d : HostController) (k : StartKind) (buf m log : List ℕ) (r : StartResult) (m′ l′ : List ℕ) → DidStart (startOf d k buf m log) log r m′ l′ → let o = call d (start k buf m log) in
+  pub submits : (d : HostController) (c : ℕ) (x : Begin) (n f : ℕ) (r : SubmitResult) → r ≡ submitOf d c (fieldsOf x n) f → let o = call d (submit c x n f) in (r .next ≡ o .next) × (r .answer ≡ o .answer)
+  pub looks : (d : HostController) (f : ℕ) (r : TurnResult) → r ≡ whoseTurnOf d f → let o = call d (whoseTurn f) in (r .next ≡ o .next) × (r .answer ≡ o .answer)
+  pub starts : (d : HostController) (k : StartKind) (f : ℕ) (buf m log : List ℕ) (r : StartResult) (m′ l′ : List ℕ) → DidStart (startOf d k f buf m log) log r m′ l′ → let o = call d (start k f buf m log) in
       (r .next ≡ o .next) × (r .answer ≡ o .answer) × (r .armed ≡ o .armed) × (r .writes ≡ length (o .writes)) × (m′ ≡ o .memory) × (l′ ≡ logged log 0 (o .writes))
   pub drives : (d : HostController) (c : D.Call) (b : isBegin c ≡ false) → let o = call d (driver c b) in let e = D.call (d .driver) c in
       (o .next ≡ record { driver = e .next; dispatcher = d .dispatcher; submissions = d .submissions }) × (o .answer ≡ e .answer) × (o .writes ≡ e .writes) × (o .memory ≡ e .memory)

@@ -1,8 +1,8 @@
 //! What the callers' scripts have where the replay scripts have begins: comings, looks
-//! and starts.
+//! and starts, with the frames that they bring and the shares of the callers.
 
 use super::{Generator, Kind};
-use crate::caller_lines::{coming, start_of};
+use crate::caller_lines::{coming, shares, start_of};
 use crate::script::{Format, TransferKind};
 use std::io::{self, Write};
 
@@ -13,14 +13,44 @@ impl<W: Write> Generator<W> {
     /// A caller comes, looks or starts.
     pub fn dispatch(&mut self) -> io::Result<()> {
         let more = self.is_begin_wanted();
-        match self.rng.below(16) {
+        match self.rng.below(18) {
             0..3 => self.line("look"),
             3 => self.any_start(),
             4 => self.sound_begin(),
-            5..9 if more && self.kind.has_limits() => self.any_begin(),
-            5.. if more => self.sound_begin(),
-            5.. if self.player.under_way.is_none() => self.sound_start(),
+            5 | 6 => self.frame(),
+            7..11 if more && self.kind.has_limits() => self.any_begin(),
+            7.. if more => self.sound_begin(),
+            7.. if self.player.under_way.is_none() => self.sound_start(),
             _ => self.side_call(),
+        }
+    }
+
+    /// The next frame, the same one again, the one before, or any.
+    fn frame(&mut self) -> io::Result<()> {
+        self.frame = match self.rng.below(8) {
+            0 => self.frame,
+            1 => self.frame.wrapping_sub(1),
+            2 => self.rng.pick(&[0, 1, 0x7ff, u32::MAX]),
+            3 => self.rng.bits(),
+            _ => self.frame.wrapping_add(1),
+        };
+        self.line(&format!("frame {}", self.frame))
+    }
+
+    /// Shares of all sorts; now and then everybody's alike.
+    pub fn shares(&mut self) -> io::Result<()> {
+        let mut all = [self.share(); 8];
+        if !self.rng.once_in(4) {
+            all = all.map(|_| self.share());
+        }
+        self.line(&shares(all))
+    }
+
+    fn share(&mut self) -> u32 {
+        match self.rng.below(3) {
+            0 => self.rng.pick(&[0, 1, 64, 65_535, u32::MAX]),
+            1 => self.rng.below(70) as u32,
+            _ => self.rng.below(700) as u32,
         }
     }
 
@@ -76,7 +106,7 @@ impl<W: Write> Generator<W> {
     }
 
     fn next_start(&mut self) -> (TransferKind, u64) {
-        match self.player.dispatcher().next() {
+        match self.player.next() {
             Some(next) => (next.request.kind(), next.length as u64),
             None => (self.any_kind(), self.rng.below(3)),
         }

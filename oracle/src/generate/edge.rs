@@ -1,7 +1,7 @@
 //! Scripts of refused calls and limits.
 
 use super::Generator;
-use crate::caller_lines::coming;
+use crate::caller_lines::{coming, shares};
 use crate::player::{UnderWay, ERRORS};
 use crate::script::{Format, Way};
 use std::io::{self, Write};
@@ -170,7 +170,7 @@ impl<W: Write> Generator<W> {
     /// is broken off.
     fn long_transfers(&mut self) -> io::Result<()> {
         match (self.player.format, self.player.under_way) {
-            (Format::Callers, _) => self.line("fresh")?,
+            (Format::Callers, _) => self.fresh_whole()?,
             (Format::Replay, Some(_)) => self.line("cancel")?,
             (Format::Replay, None) => {}
         }
@@ -196,9 +196,17 @@ impl<W: Write> Generator<W> {
         Ok(())
     }
 
+    /// Of a callers' script, everybody may ask for anything.
+    fn fresh_whole(&mut self) -> io::Result<()> {
+        match self.player.format {
+            Format::Replay => self.line("fresh"),
+            Format::Callers => self.line(&shares([u32::MAX; 8])),
+        }
+    }
+
     /// A record with room for 0 to 15 bytes more, and then a count.
     fn brimful(&mut self) -> io::Result<()> {
-        self.line("fresh")?;
+        self.fresh_whole()?;
         self.begin_alone("bulk-out 127 15 64 fixed 0 seq:65535:0:1")?;
         self.go_on(u64::MAX)?;
         // 54,289 would leave 5.

@@ -60,6 +60,7 @@ pub fn generate(
     let mut generator = Generator {
         rng: Rng::new(seed),
         kind,
+        frame: 0,
         player: Player::new(out, format),
     };
     generator.player.line(match rule {
@@ -93,6 +94,8 @@ pub fn generate(
 struct Generator<W> {
     rng: Rng,
     kind: Kind,
+    /// The number of the last `frame` line.
+    frame: u32,
     player: Player<W>,
 }
 
@@ -105,13 +108,17 @@ impl<W: Write> Generator<W> {
         self.player.line(text.as_bytes())
     }
 
-    /// A callers' script changes the desk rule now and then.
+    /// A callers' script changes the desk rule now and then, and mostly the shares.
     fn fresh(&mut self) -> io::Result<()> {
-        let text = match self.player.format {
-            Format::Replay => "fresh",
-            Format::Callers => self.rng.pick(&["fresh", "rule 1", "rule 2"]),
-        };
-        self.line(text)
+        match self.player.format {
+            Format::Replay => self.line("fresh"),
+            Format::Callers => match self.rng.below(6) {
+                0..3 => self.shares(),
+                3 => self.line("fresh"),
+                4 => self.line("rule 1"),
+                _ => self.line("rule 2"),
+            },
+        }
     }
 
     /// A transfer failed or was cancelled: the record, one time in four; seldom a cancel
@@ -199,7 +206,7 @@ mod tests {
     /// 8 no longer occurs.
     #[test]
     fn all_answers_to_callers_come_up() {
-        let refusals = (1..=7).chain(9..=17).chain(32..=33);
+        let refusals = (1..=7).chain(9..=17).chain(32..=34);
         let others = ["waiting ", "started ", "turn ", "nobody "];
         assert_eq!(answers(Format::Callers), expected(refusals, &others));
     }

@@ -19,6 +19,8 @@ pub enum Fault {
     Caller,
     /// A start: the caller's transfer is of another.
     Kind,
+    /// A coming: the transfer is larger than the caller's.
+    Share,
 }
 
 use Fault::{Address, Busy, Endpoint, Length, Log, PacketMemory, Size};

@@ -1,5 +1,5 @@
 //! The scripts of the oracle's own tests: document 01's table, lending, failed transfers,
-//! and lines that can't be read.
+//! callers, shares and frames, and lines that can't be read.
 
 use super::Vectors;
 use std::io::{self, Write};
@@ -17,8 +17,9 @@ pub const REPLAY: [&str; 7] = [
 pub const UNREADABLE: &str = include_str!("../../tests/scripts/unreadable.script");
 
 /// Those of the callers' format.
-pub const CALLERS: [&str; 2] = [
+pub const CALLERS: [&str; 3] = [
     include_str!("../../tests/scripts/callers.script"),
+    include_str!("../../tests/scripts/shares.script"),
     CALLERS_UNREADABLE,
 ];
 

@@ -15,7 +15,7 @@ same-length c = search needs
 returns : tie.Need-returns
 returns c =
     let a = c .before .before .before .before .before .before .before .args in
-    tied .starts (a .host) bulkIn (now (a .buf)) (now (a .pm)) (now (a .log)) _ _ _ (c .before .before .start-bulk-in .ensures .0)
+    tied .starts (a .host) bulkIn (a .frame) (now (a .buf)) (now (a .pm)) (now (a .log)) _ _ _ (c .before .before .start-bulk-in .ensures .0)
 
 pub start-bulk-in-spec : {M : Type 1} → statement M
 start-bulk-in-spec = tie.close (tie.spec start-bulk-in-requires same-length returns)

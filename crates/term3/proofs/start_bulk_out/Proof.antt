@@ -18,7 +18,7 @@ same-length-2 c = search needs
 returns : tie.Need-returns
 returns c =
     let a = c .before .before .before .before .before .before .before .before .before .before .args in
-    tied .starts (a .host) bulkOut (now (a .buf)) (now (a .pm)) (now (a .log)) _ _ _ (c .before .before .before .before .start-bulk-out .ensures .0)
+    tied .starts (a .host) bulkOut (a .frame) (now (a .buf)) (now (a .pm)) (now (a .log)) _ _ _ (c .before .before .before .before .start-bulk-out .ensures .0)
 
 pub start-bulk-out-spec : {M : Type 1} → statement M
 start-bulk-out-spec = tie.close (tie.spec start-bulk-out-requires same-length same-length-2 returns)

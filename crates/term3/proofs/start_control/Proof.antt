@@ -15,7 +15,7 @@ same-length c = search needs
 returns : tie.Need-returns
 returns c =
     let a = c .before .before .before .before .before .before .before .args in
-    tied .starts (a .host) control (now (a .buf)) (now (a .pm)) (now (a .log)) _ _ _ (c .before .before .start-control .ensures .0)
+    tied .starts (a .host) control (a .frame) (now (a .buf)) (now (a .pm)) (now (a .log)) _ _ _ (c .before .before .start-control .ensures .0)
 
 pub start-control-spec : {M : Type 1} → statement M
 start-control-spec = tie.close (tie.spec start-control-requires same-length returns)

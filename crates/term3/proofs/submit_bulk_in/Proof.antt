@@ -10,7 +10,7 @@ submit-bulk-in-requires : tie.Need-submit-bulk-in-requires
 submit-bulk-in-requires c κs = search needs
 
 returns : tie.Need-returns
-returns c = let a = c .before .args in tied .submits (a .host) (a .caller) (bulkBegin In (a .address) (a .endpoint) (a .size) (a .kind) (a .toggle)) (a .length) _ (c .submit-bulk-in .ensures .0)
+returns c = let a = c .before .args in tied .submits (a .host) (a .caller) (bulkBegin In (a .address) (a .endpoint) (a .size) (a .kind) (a .toggle)) (a .length) (a .frame) _ (c .submit-bulk-in .ensures .0)
 
 pub submit-bulk-in-spec : {M : Type 1} → statement M
 submit-bulk-in-spec = tie.close (tie.spec submit-bulk-in-requires returns)

@@ -9,7 +9,7 @@ submit-control-requires : tie.Need-submit-control-requires
 submit-control-requires c κs = search needs
 
 returns : tie.Need-returns
-returns c = let a = c .before .args in tied .submits (a .host) (a .caller) (controlBegin (a .address) (a .extras) (a .size) (a .setup) (a .phase)) (a .length) _ (c .submit-control .ensures .0)
+returns c = let a = c .before .args in tied .submits (a .host) (a .caller) (controlBegin (a .address) (a .extras) (a .size) (a .setup) (a .phase)) (a .length) (a .frame) _ (c .submit-control .ensures .0)
 
 pub submit-control-spec : {M : Type 1} → statement M
 submit-control-spec = tie.close (tie.spec submit-control-requires returns)

@@ -8,7 +8,7 @@ whose-turn-requires : tie.Need-whose-turn-requires
 whose-turn-requires c κs = search needs
 
 returns : tie.Need-returns
-returns c = let a = c .before .args in tied .looks (a .host) _ (c .whose-turn .ensures .0)
+returns c = let a = c .before .args in tied .looks (a .host) (a .frame) _ (c .whose-turn .ensures .0)
 
 pub whose-turn-spec : {M : Type 1} → statement M
 whose-turn-spec = tie.close (tie.spec whose-turn-requires returns)

@@ -3,16 +3,17 @@
 use super::super::refusals::{faulty_line, pairs, Fault};
 use super::super::Vectors;
 use super::{BULK_OUT, COMPLETE_OUT, NONE, SHORT};
+use crate::caller_lines::shares;
 use std::io::{self, Write};
-use Fault::{Address, Busy, Caller, Endpoint, Length, Size};
+use Fault::{Address, Busy, Caller, Endpoint, Length, Share, Size};
 
 impl<W: Write> Vectors<W> {
     pub fn comings(&mut self) -> io::Result<()> {
         for begin in ["control-in", "control-out", "control-none"] {
-            self.faulty_comings(begin, &[Caller, Busy, Address, Size])?;
+            self.faulty_comings(begin, &[Caller, Busy, Share, Address, Size])?;
         }
         for begin in ["bulk-in", "bulk-out"] {
-            let all = [Caller, Busy, Address, Endpoint, Size, Length];
+            let all = [Caller, Busy, Share, Address, Endpoint, Size, Length];
             self.faulty_comings(begin, &all)?;
         }
         self.every_caller()?;
@@ -25,12 +26,13 @@ impl<W: Write> Vectors<W> {
     fn faulty_comings(&mut self, begin: &str, faults: &[Fault]) -> io::Result<()> {
         for pair in pairs(faults) {
             let has = |fault| pair.contains(&fault);
-            self.case(&format!("come {begin}: {:?}, {:?}", pair[0], pair[1]))?;
+            self.line(&format!("# come {begin}: {:?}, {:?}", pair[0], pair[1]))?;
+            self.line(&shares([if has(Share) { 0 } else { u32::MAX }; 8]))?;
             if has(Busy) {
                 self.come(3, NONE)?;
             }
             let caller = if has(Caller) { 8 } else { 3 };
-            self.come(caller, &faulty_line(begin, has))?;
+            self.come(caller, &asking(&faulty_line(begin, has)))?;
             self.line("look")?;
         }
         Ok(())
@@ -89,4 +91,9 @@ impl<W: Write> Vectors<W> {
         self.lines(&["look", "lend 4096 192"])?;
         self.start(NONE)
     }
+}
+
+/// A control's wLength is 2.
+fn asking(begin: &str) -> String {
+    begin.replace("0009010000000000", "0009010000000200")
 }

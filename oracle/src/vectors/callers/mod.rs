@@ -2,6 +2,8 @@
 
 mod comings;
 mod ends;
+mod frames;
+mod shares;
 mod starts;
 mod transfers;
 mod turns;
@@ -25,7 +27,9 @@ impl<W: Write> Vectors<W> {
         self.starts()?;
         self.turns()?;
         self.ends()?;
-        self.transfers()
+        self.transfers()?;
+        self.shares()?;
+        self.frames()
     }
 
     /// The transfer of a begin's line comes.

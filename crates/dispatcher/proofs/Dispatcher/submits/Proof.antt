@@ -3,17 +3,20 @@ use borrow.Author.Needs.{needs}
 use Rattle.dispatcher.proofs.Dispatcher.submits.Statement.{statement}
 use Rattle.dispatcher.proofs.Dispatcher.submits.Tie as tie
 
-settled-requires : tie.Need-settled-requires
-settled-requires c κs = search needs
+in-frame-requires : tie.Need-in-frame-requires
+in-frame-requires c κs = search needs
 
 marked-requires : tie.Need-marked-requires
 marked-requires c κs = search needs
 
-settled-requires-2 : tie.Need-settled-requires-2
-settled-requires-2 c κs = search needs
+with-bytes-requires : tie.Need-with-bytes-requires
+with-bytes-requires c κs = search needs
+
+settled-requires : tie.Need-settled-requires
+settled-requires c κs = search needs
 
 returns : tie.Need-returns
-returns c = simp (c .settled2 .ensures, c .before .marked .ensures, c .before .before .before .settled .ensures)
+returns c = simp (c .settled .ensures, c .before .with-bytes .ensures, c .before .before .marked .ensures, c .before .before .before .before .before .in-frame .ensures)
 
 pub submits-spec : {M : Type 1} → statement M
-submits-spec = tie.close (tie.spec settled-requires marked-requires settled-requires-2 returns)
+submits-spec = tie.close (tie.spec in-frame-requires marked-requires with-bytes-requires settled-requires returns)

@@ -21,9 +21,14 @@ same-length c = search needs
 
 returns : tie.Need-returns
 returns c =
-    let lent-fits = c .before .before .lent-fits in
     let args = c .before .before .before .before .before .before .before .args in
-    start-unlent (args .self) bulkIn (now (args .buf)) (now (args .pm)) (now (args .log)) _ (sym (lent-fits .ensures) ∙ not-true (lent-fits .result) (c .before .if1 .taken)) (c .refuse-start .ensures)
+    let lent-fits = c .before .before .lent-fits in
+    let if1 = c .before .if1 .taken in
+    let refuse-start = c .refuse-start in
+    start-unlent (args .self) bulkIn (args .frame) (now (args .buf)) (now (args .pm)) (now (args .log)) _ (sym (lent-fits .ensures) ∙ not-true (lent-fits .result) if1) (refuse-start .ensures)
+
+observed-requires : tie.Need-observed-requires
+observed-requires c κs = search needs
 
 next-start-requires : tie.Need-next-start-requires
 next-start-requires c κs = search needs
@@ -42,12 +47,16 @@ same-length-2 c = search needs
 
 returns-2 : tie.Need-returns-2
 returns-2 c =
+    let args = c .before .before .before .before .before .before .before .before .before .before .before .args in
+    let lent-fits = c .before .before .before .before .before .before .lent-fits in
+    let if1 = c .before .before .before .before .before .if1 .left in
+    let observed = c .before .before .before .before .observed in
     let next-start = c .before .before .before .next-start in
-    let lent-fits = c .before .before .before .before .before .lent-fits in
-    let if1 = c .before .before .before .before .if1 .left in
-    let args = c .before .before .before .before .before .before .before .before .before .before .args in
-    let fits = sym (lent-fits .ensures) ∙ not-false (lent-fits .result) if1 in
-    start-unready (args .self) bulkIn (now (args .buf)) (now (args .pm)) (now (args .log)) (next-start .result) _ fits (next-start .ensures) (c .before .enum-told .given .1) (c .refuse-start2 .ensures)
+    let enum-told = c .before .enum-told in
+    let refuse-start2 = c .refuse-start2 in
+    let lent = sym (lent-fits .ensures) ∙ not-false (lent-fits .result) if1 in
+    start-unready (args .self) bulkIn (args .frame) (now (args .buf)) (now (args .pm)) (now (args .log)) (observed .result) (next-start .result) _ lent (observed .ensures) (next-start .ensures)
+    (enum-told .given .1) (refuse-start2 .ensures)
 
 enum-known-x : tie.Need-enum-known-x
 enum-known-x c = search needs
@@ -60,14 +69,18 @@ same-length-3 c = search needs
 
 returns-3 : tie.Need-returns-3
 returns-3 c =
+    let args = c .before .before .before .before .before .before .before .before .before .before .before .before .before .args in
+    let lent-fits = c .before .before .before .before .before .before .before .before .lent-fits in
+    let if1 = c .before .before .before .before .before .before .before .if1 .left in
+    let observed = c .before .before .before .before .before .before .observed in
     let next-start = c .before .before .before .before .before .next-start in
-    let lent-fits = c .before .before .before .before .before .before .before .lent-fits in
-    let if1 = c .before .before .before .before .before .before .if1 .left in
-    let args = c .before .before .before .before .before .before .before .before .before .before .before .before .args in
-    let fits = sym (lent-fits .ensures) ∙ not-false (lent-fits .result) if1 in
     let next = c .before .before .before .next in
+    let match2 = c .before .match2 in
+    let refuse-start3 = c .refuse-start3 in
+    let lent = sym (lent-fits .ensures) ∙ not-false (lent-fits .result) if1 in
     let n = next .given .0 .0 in
-    start-other (args .self) bulkIn (now (args .buf)) (now (args .pm)) (now (args .log)) (next-start .result) n (n .fields) _ fits (next-start .ensures) (next .given .1) refl (not-bulk-in (n .fields) (c .before .match2 .keys2)) (c .refuse-start3 .ensures)
+    start-other (args .self) bulkIn (args .frame) (now (args .buf)) (now (args .pm)) (now (args .log)) (observed .result) (next-start .result) n (n .fields) _ lent (observed .ensures) (next-start .ensures)
+    (next .given .1) refl (not-bulk-in (n .fields) (match2 .keys2)) (refuse-start3 .ensures)
 
 refuse-start-requires-4 : tie.Need-refuse-start-requires-4
 refuse-start-requires-4 c κs = search needs
@@ -77,14 +90,18 @@ same-length-4 c = search needs
 
 returns-4 : tie.Need-returns-4
 returns-4 c =
+    let args = c .before .before .before .before .before .before .before .before .before .before .before .before .before .before .before .before .before .args in
+    let lent-fits = c .before .before .before .before .before .before .before .before .before .before .before .before .lent-fits in
+    let if1 = c .before .before .before .before .before .before .before .before .before .before .before .if1 .left in
+    let observed = c .before .before .before .before .before .before .before .before .before .before .observed in
     let next-start = c .before .before .before .before .before .before .before .before .before .next-start in
-    let lent-fits = c .before .before .before .before .before .before .before .before .before .before .before .lent-fits in
-    let if1 = c .before .before .before .before .before .before .before .before .before .before .if1 .left in
-    let args = c .before .before .before .before .before .before .before .before .before .before .before .before .before .before .before .before .args in
-    let fits = sym (lent-fits .ensures) ∙ not-false (lent-fits .result) if1 in
     let next = c .before .before .before .before .before .before .before .next in
     let x = c .before .before .before .before .x in
-    start-long (args .self) bulkIn (now (args .buf)) (now (args .pm)) (now (args .log)) (next-start .result) (next .given .0 .0) (BulkIn (x .given .0 .0)) _ fits (next-start .ensures) (next .given .1) (x .given .1) refl (ne-eqb _ _ (c .before .if2 .taken)) (c .refuse-start4 .ensures)
+    let if2 = c .before .if2 .taken in
+    let refuse-start4 = c .refuse-start4 in
+    let lent = sym (lent-fits .ensures) ∙ not-false (lent-fits .result) if1 in
+    start-long (args .self) bulkIn (args .frame) (now (args .buf)) (now (args .pm)) (now (args .log)) (observed .result) (next-start .result) (next .given .0 .0) (BulkIn (x .given .0 .0)) _ lent (observed .ensures)
+    (next-start .ensures) (next .given .1) (x .given .1) refl (ne-eqb _ _ if2) (refuse-start4 .ensures)
 
 begin-bulk-in-requires : tie.Need-begin-bulk-in-requires
 begin-bulk-in-requires c κs = search needs
@@ -97,15 +114,19 @@ same-length-5 c = search needs
 
 returns-5 : tie.Need-returns-5
 returns-5 c =
+    let args = c .before .before .before .before .before .before .before .before .before .before .before .before .before .before .before .before .before .before .before .before .before .before .args in
+    let lent-fits = c .before .before .before .before .before .before .before .before .before .before .before .before .before .before .before .before .before .lent-fits in
+    let if1 = c .before .before .before .before .before .before .before .before .before .before .before .before .before .before .before .before .if1 .left in
+    let observed = c .before .before .before .before .before .before .before .before .before .before .before .before .before .before .before .observed in
     let next-start = c .before .before .before .before .before .before .before .before .before .before .before .before .before .before .next-start in
-    let lent-fits = c .before .before .before .before .before .before .before .before .before .before .before .before .before .before .before .before .lent-fits in
-    let if1 = c .before .before .before .before .before .before .before .before .before .before .before .before .before .before .before .if1 .left in
-    let args = c .before .before .before .before .before .before .before .before .before .before .before .before .before .before .before .before .before .before .before .before .before .args in
-    let fits = sym (lent-fits .ensures) ∙ not-false (lent-fits .result) if1 in
     let next = c .before .before .before .before .before .before .before .before .before .before .before .before .next in
     let x = c .before .before .before .before .before .before .before .before .before .x in
-    let begin = c .before .before .before .begin-bulk-in in
-    start-did (args .self) bulkIn (now (args .buf)) (now (args .pm)) (now (args .log)) (next-start .result) (next .given .0 .0) (BulkIn (x .given .0 .0)) (begin .result) _ _ _ fits (next-start .ensures) (next .given .1) (x .given .1) refl (eq-eqb _ _ (c .before .before .before .before .before .before .if2 .left)) (begin .ensures .0) (c .started .ensures)
+    let if2 = c .before .before .before .before .before .before .if2 .left in
+    let begin-bulk-in = c .before .before .before .begin-bulk-in in
+    let started = c .started in
+    let lent = sym (lent-fits .ensures) ∙ not-false (lent-fits .result) if1 in
+    start-did (args .self) bulkIn (args .frame) (now (args .buf)) (now (args .pm)) (now (args .log)) (observed .result) (next-start .result) (next .given .0 .0) (BulkIn (x .given .0 .0)) (begin-bulk-in .result) _ _ _ lent
+    (observed .ensures) (next-start .ensures) (next .given .1) (x .given .1) refl (eq-eqb _ _ if2) (begin-bulk-in .ensures .0) (started .ensures)
 
 pub start-bulk-in-spec : {M : Type 1} → statement M
 start-bulk-in-spec =
@@ -115,6 +136,7 @@ start-bulk-in-spec =
     refuse-start-requires
     same-length
     returns
+    observed-requires
     next-start-requires
     enum-known-next
     enum-told
