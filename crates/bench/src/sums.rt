@@ -2,7 +2,7 @@
 use libc::STDOUT_FILENO;
 use transfers::answers::StepAnswer;
 
-#[derive(Drop)]
+#[derive(Clone, Copy)]
 pub struct Sums {
     pub count: u64,
     pub buffer: u64,

@@ -16,7 +16,7 @@ use transfers::host_controller::DataPhase;
 use transfers::wire::Direction;
 
 // The starts, by what they start.
-#[derive(Drop)]
+#[derive(Clone, Copy)]
 pub enum Kind {
     Control,
     BulkIn,
@@ -24,7 +24,7 @@ pub enum Kind {
 }
 
 // The shares of four callers, in order.
-#[derive(Drop)]
+#[derive(Clone, Copy)]
 pub struct Four {
     pub first: u32,
     pub second: u32,
@@ -32,7 +32,7 @@ pub struct Four {
     pub fourth: u32,
 }
 
-#[derive(Drop)]
+#[derive(Clone, Copy)]
 pub enum OptionFour {
     Some(Four),
     None,
@@ -40,7 +40,7 @@ pub enum OptionFour {
 
 // A coming has CALLER first, and LEN as its `count`. A start has LEN, or how many bytes BYTES has; the bytes stand at the start of those lent.
 // The shares are those of callers 0 to 3, then of 4 to 7.
-#[derive(Drop)]
+#[derive(Clone, Copy)]
 pub enum Command {
     ComeControl(u8, DataPhase, Control),
     ComeBulk(u8, Direction, Bulk),

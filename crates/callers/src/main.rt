@@ -1,4 +1,6 @@
 // Plays a script of comings, looks, starts and driver calls on a host, and prints what each answers, writes, arms and changes.
+#![tactic(auto)]
+
 mod comings;
 mod line;
 mod play;

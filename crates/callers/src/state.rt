@@ -4,7 +4,7 @@ use host::controller::HostController;
 use host::fields::Submission;
 use session::state::State;
 
-#[derive(Drop)]
+#[derive(Clone, Copy)]
 pub struct Callers {
     pub session: State,
     pub dispatcher: Dispatcher,

@@ -1,4 +1,6 @@
 // A record's packets on standard output: a line each, or a capture file.
+#![tactic(auto)]
+
 mod pcap;
 
 ghost use Rattle.std.specs.Prelude.{◌≡◌, ◌≤◌, ◌<◌, length};
@@ -16,7 +18,7 @@ use record::refusal::{Refusal, number};
 use script::text::{put, put_pairs};
 
 // A line of bytes a packet, or a pcap file.
-#[derive(Drop)]
+#[derive(Clone, Copy)]
 pub enum Form {
     Lines,
     Pcap,

@@ -1,4 +1,6 @@
 // Lists many inputs, the cases: standard input has one a line, as the replay script's BYTES. Empty lines and lines that begin with # are skipped.
+#![tactic(auto)]
+
 use capture::{Form, print_capture};
 use descriptorlisting::print_configuration;
 use input::first;
@@ -10,7 +12,7 @@ use script::field::end_of;
 use script::line::is_skipped;
 
 // What the inputs are.
-#[derive(Drop)]
+#[derive(Clone, Copy)]
 pub enum Kind {
     Records,
     Configurations,

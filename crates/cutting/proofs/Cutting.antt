@@ -9,7 +9,7 @@ use lib.ListN.{length, take, drop}
 use lib.Seq.{take-nil, length-take-le, take-take, drop-drop}
 use lib.Dec.{ltb}
 use borrow.Author.Tests.{le-ltb}
-use Rattle.pool.proofs.Cases.{byCases}
+use Rattle.pool.proofs.Cases.{by_cases}
 use Rattle.cutting.specs.declared.transfer_type.TransferType.{TransferType}
 use Rattle.cutting.specs.declared.packetiser.Next.{Next}
 use Rattle.cutting.specs.declared.packetiser.OptionArm.TheVariants.{None}
@@ -110,8 +110,8 @@ module _ (t : TransferType) (p : ℕ) (b : Bool) (h : 0 < p) (k : p ≤ 64) wher
 
     out_left : (n r off : ℕ) (s : Bool) → r ≤ n → off + r ≤ 0xFFFF → off + r ≤ length buf → OutLeft buf (out_at r off s) (out_rest r off s)
     out_left zero r off s e f g =
-        byCases (more t p r) (λ (q : more t p r ≡ true). let u : p ≤ r = more_le t p r q in absurd (omega arith)) (out_last r off s f g)
-    out_left (suc n) r off s e f g = byCases (more t p r)
+        by_cases (more t p r) (λ (q : more t p r ≡ true). let u : p ≤ r = more_le t p r q in absurd (omega arith)) (out_last r off s f g)
+    out_left (suc n) r off s e f g = by_cases (more t p r)
         (λ (q : more t p r ≡ true).
         let u : p ≤ r = more_le t p r q in
         let x = out_gives_lem r off s (sends p false) f (next_more p h k t r q) in
@@ -145,8 +145,8 @@ module _ (t : TransferType) (p : ℕ) (b : Bool) (h : 0 < p) (k : p ≤ 64) wher
 
   in_left : (n r : ℕ) (s : Bool) → r ≤ n → InLeft (in_at r s) (in_rest r s)
   in_left zero r s e =
-      byCases (more t p r) (λ (q : more t p r ≡ true). let u : p ≤ r = more_le t p r q in absurd (omega arith)) (in_last r s)
-  in_left (suc n) r s e = byCases (more t p r)
+      by_cases (more t p r) (λ (q : more t p r ≡ true). let u : p ≤ r = more_le t p r q in absurd (omega arith)) (in_last r s)
+  in_left (suc n) r s e = by_cases (more t p r)
       (λ (q : more t p r ≡ true).
       let u : p ≤ r = more_le t p r q in
       let x = in_gives_lem r s (sends p false) (next_more p h k t r q) in

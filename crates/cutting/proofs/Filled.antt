@@ -9,7 +9,7 @@ use lib.Dec.{ltb}
 use lib.ListN.{length, take, drop, length-append, length-drop}
 use lib.Seq.{sets, sets-eq, length-take-le, take-length, take-take, drop-drop, take_at, drop_at, take-append-le, take-append-add}
 use borrow.Author.Tests.{ltb-true, ltb-false}
-use Rattle.pool.proofs.Cases.{byCases}
+use Rattle.pool.proofs.Cases.{by_cases}
 use Rattle.cutting.specs.declared.depacketiser.InDepacketiser.{InDepacketiser}
 use Rattle.cutting.specs.Rules.{joined}
 use Rattle.cutting.specs.Retire.{in_begin, in_retire, filled, sum, CountsBytes}
@@ -76,7 +76,7 @@ module _ (n : ℕ) (lent : List ℕ) (few : n ≤ 0xFFFF) (room : n ≤ length l
       let w = r.whole in
       let small : c ≤ length x = omega arith in
       let inside : d.offset ≤ length j = omega arith in
-      let e : take d.offset j ++ take c x ≡ take (d.offset + c) (j ++ x) = byCases (ltb d.offset (length j))
+      let e : take d.offset j ++ take c x ≡ take (d.offset + c) (j ++ x) = by_cases (ltb d.offset (length j))
       (λ (u : ltb d.offset (length j) ≡ true). let v = ltb-true d.offset (length j) u in stays j x lent d.offset c inside (omega arith) (omega arith))
       (λ (u : ltb d.offset (length j) ≡ false). let v = ltb-false d.offset (length j) u in
       subst (λ (i : ℕ). take i j ++ take c x ≡ take (i + c) (j ++ x)) (let z : length j ≡ d.offset = omega arith in z)

@@ -9,7 +9,7 @@ use native.Mathlib.Omega.{arith}
 use lib.ListN.{replicate}
 use lib.Dec.{eqb, ltb, leb}
 use borrow.Author.Tests.{ltb-true, ltb-false, leb-true, leb-false, lt-ltb, le-ltb, ne_eqb}
-use Rattle.pool.proofs.Cases.{byCases}
+use Rattle.pool.proofs.Cases.{by_cases}
 use Rattle.cutting.specs.declared.transfer_type.TransferType.{TransferType}
 use Rattle.cutting.specs.declared.transfer_type.TransferType.TheVariants.{FixedSize, VariableSize}
 use Rattle.cutting.specs.declared.packetiser.Next.TheVariants.{Packet, End}
@@ -64,7 +64,7 @@ lengths_full p h = rw (div_self h, mod_self p, not_zero p h)
 
 pub lengths_last : (t : TransferType) (p n : ℕ) → 0 < p → more t p n ≡ false → lengths t p n ≡ n ∷ []
 lengths_last VariableSize p n h e = lengths_short VariableSize p n (leb-false p n e)
-lengths_last FixedSize p n h e = byCases (ltb n p)
+lengths_last FixedSize p n h e = by_cases (ltb n p)
     (λ (q : ltb n p ≡ true). lengths_short FixedSize p n (ltb-true n p q))
     (λ (q : ltb n p ≡ false).
     let a : p ≤ n = ltb-false n p q in
@@ -74,7 +74,7 @@ lengths_last FixedSize p n h e = byCases (ltb n p)
 
 -- There is always a packet.
 pub lengths_some : (t : TransferType) (p n : ℕ) → 0 < p → none (lengths t p n) ≡ false
-lengths_some t p n h = byCases (more t p n) (λ (q : more t p n ≡ true). rw (lengths_more t p n h q)) (λ (q : more t p n ≡ false). rw (lengths_last t p n h q))
+lengths_some t p n h = by_cases (more t p n) (λ (q : more t p n ≡ true). rw (lengths_more t p n h q)) (λ (q : more t p n ≡ false). rw (lengths_last t p n h q))
 
 -- ---- the counters
 
@@ -87,7 +87,7 @@ module _ (p : ℕ) (h : 0 < p) (k : p ≤ 64) where
   next_more VariableSize r e =
       let u : p ≤ r = leb-true p r e in
       rw (not_zero p h, le-ltb 64 p k, not_zero r (omega arith), le-ltb r p u)
-      (byCases (ltb p r) (λ (q : ltb p r ≡ true). rw q)
+      (by_cases (ltb p r) (λ (q : ltb p r ≡ true). rw q)
       (λ (q : ltb p r ≡ false).
       let v : r ≡ p = let w : r ≤ p = ltb-false p r q in omega arith in
       rw q (rw v (rw mod_self))))
@@ -106,7 +106,7 @@ module _ (p : ℕ) (h : 0 < p) (k : p ≤ 64) where
   next_last VariableSize zero e = rw (not_zero p h, le-ltb 64 p k, zero-mod)
   next_last FixedSize (suc r) e =
       rw (not_zero p h, le-ltb 64 p k, not_zero (suc r) (omega arith))
-      (byCases (ltb (suc r) p) (λ (q : ltb (suc r) p ≡ true). rw q)
+      (by_cases (ltb (suc r) p) (λ (q : ltb (suc r) p ≡ true). rw q)
       (λ (q : ltb (suc r) p ≡ false).
       let v : p ≡ suc r = let a : p ≤ suc r = ltb-false (suc r) p q in let b : suc r ≤ p = ltb-false p (suc r) e in omega arith in
       rw (q, e) (ap (λ (n : ℕ). Packet n true) v)))

@@ -6,7 +6,7 @@ use Prim.Native.Nat.{ℕ, ◌+◌, ◌-◌, ◌≤◌, ◌<◌, min}
 use native.Mathlib.Omega.{arith}
 use lib.Dec.{ltb}
 use borrow.Author.Tests.{ltb-true, ltb-false, le-ltb}
-use Rattle.pool.proofs.Cases.{byCases}
+use Rattle.pool.proofs.Cases.{by_cases}
 use Rattle.cutting.specs.declared.depacketiser.InDepacketiser.{InDepacketiser}
 use Rattle.cutting.specs.Retire.{in_begin, kept_of, in_retire, retired, sum, odd}
 
@@ -34,7 +34,7 @@ retire_sum c k = omega (arith, (kept_fits c.offset c.remain k).0)
 kept_min : (off r k : ℕ) → off + r ≤ 0xFFFF → kept_of off r k ≡ min r k
 kept_min off r k h =
     ap (λ (v : Bool). cond v 0 (cond (ltb k r) k r)) (le-ltb (0xFFFF - off) r (omega (arith, h)))
-    ∙ byCases (ltb k r)
+    ∙ by_cases (ltb k r)
     (λ (e : ltb k r ≡ true). ap (λ (v : Bool). cond v k r) e ∙ (let z = ltb-true k r e in omega arith))
     (λ (e : ltb k r ≡ false). ap (λ (v : Bool). cond v k r) e ∙ (let z = ltb-false k r e in omega arith))
 

@@ -7,7 +7,7 @@ use native.Mathlib.Omega.{arith}
 use lib.ListN.{length, take, drop, length-drop, take-append-drop, length-append, length-map}
 use lib.Seq.{take-length, length-take-le, take_at, drop_at}
 use borrow.Author.Tests.{ltb-true, leb-false, lt-ltb, le-ltb, le-leb, lt-leb}
-use Rattle.pool.proofs.Cases.{byCases}
+use Rattle.pool.proofs.Cases.{by_cases}
 use Rattle.cutting.specs.declared.transfer_type.TransferType.{TransferType}
 use Rattle.cutting.specs.declared.transfer_type.TransferType.TheVariants.{FixedSize, VariableSize}
 use Rattle.cutting.specs.Cut.{Packet, packet, lengths, deal, none, numbered, out_cut, in_cut_of}
@@ -110,8 +110,8 @@ module _ (p : ℕ) (low : 1 ≤ p) where
       }
 
   split_up : (n : ℕ) (t : TransferType) (l : List ℕ) → length l ≤ n → Split t p l (cut t p l)
-  split_up zero t l h = byCases (more t p (length l)) (λ (e : more t p (length l) ≡ true). absurd (omega (arith, more_le t p (length l) e))) (split_last t l)
-  split_up (suc n) t l h = byCases (more t p (length l))
+  split_up zero t l h = by_cases (more t p (length l)) (λ (e : more t p (length l) ≡ true). absurd (omega (arith, more_le t p (length l) e))) (split_last t l)
+  split_up (suc n) t l h = by_cases (more t p (length l))
       (λ (e : more t p (length l) ≡ true). split_more t l e (split_up n t (drop p l) (let z = length-drop p l in let q = more_le t p (length l) e in omega arith)))
       (split_last t l)
 
@@ -293,7 +293,7 @@ ended x [] = record { xs = []; x = x; is = refl }
 ended x (y ∷ l) = let e = ended y l in record { xs = x ∷ e.xs; x = e.x; is = ap (λ (z : List _). x ∷ z) e.is }
 
 slots_end : (t : TransferType) (p n : ℕ) → 1 ≤ p → Ended (map (λ (k : ℕ). p) (lengths t p n))
-slots_end t p n low = byCases (more t p n)
+slots_end t p n low = by_cases (more t p n)
     (λ (e : more t p n ≡ true). subst (λ (ns : List ℕ). Ended (map (λ (k : ℕ). p) ns)) (sym (lengths_more t p n low e)) (ended p (map (λ (k : ℕ). p) (lengths t p (n - p)))))
     (λ (e : more t p n ≡ false). subst (λ (ns : List ℕ). Ended (map (λ (k : ℕ). p) ns)) (sym (lengths_last t p n low e)) (ended p []))
 

@@ -6,7 +6,7 @@ use Prim.Native.Nat.{ℕ, zero, suc, ◌-◌, ◌≤◌, ◌<◌}
 use native.Mathlib.Omega.{arith}
 use lib.ListN.{length, drop, length-drop}
 use lib.Seq.{length-take-le}
-use Rattle.pool.proofs.Cases.{byCases}
+use Rattle.pool.proofs.Cases.{by_cases}
 use Rattle.cutting.specs.declared.transfer_type.TransferType.{TransferType}
 use Rattle.cutting.specs.Cut.{lengths, deal, none, numbered, out_cut}
 use Rattle.cutting.specs.Table.{Row, row, out_row}
@@ -31,10 +31,10 @@ dealt (n ∷ ns) l s b w =
     (dealt ns (drop n l) (not s) (not b) (subst (Within ns) (sym (length-drop n l)) w.1))
 
 lengths_within : (m : ℕ) (t : TransferType) (p n : ℕ) → 0 < p → n ≤ m → Within (lengths t p n) n
-lengths_within zero t p n h k = byCases (more t p n)
+lengths_within zero t p n h k = by_cases (more t p n)
     (λ (q : more t p n ≡ true). let u : p ≤ n = more_le t p n q in absurd (omega arith))
     (λ (q : more t p n ≡ false). rw (lengths_last t p n h q) (omega arith, tt))
-lengths_within (suc m) t p n h k = byCases (more t p n)
+lengths_within (suc m) t p n h k = by_cases (more t p n)
     (λ (q : more t p n ≡ true). let u : p ≤ n = more_le t p n q in rw (lengths_more t p n h q) (u, lengths_within m t p (n - p) h (omega arith)))
     (λ (q : more t p n ≡ false). rw (lengths_last t p n h q) (omega arith, tt))
 

@@ -3,7 +3,7 @@ ghost use Rattle.std.specs.Prelude.{◌≡◌};
 ghost use Rattle.cutting.specs.Retire.{kept_of, in_retire};
 
 // `next_retire` (always equal to `packet_parity`), `remain` and `offset` of the Rust.
-#[derive(Drop)]
+#[derive(Clone, Copy)]
 pub struct InDepacketiser {
     pub parity: bool,
     pub remain: u16,
@@ -11,7 +11,7 @@ pub struct InDepacketiser {
 }
 
 // How many bytes of a packet are kept, and the counters after it.
-#[derive(Drop)]
+#[derive(Clone, Copy)]
 pub struct InRetired {
     pub count: u16,
     pub rest: InDepacketiser,

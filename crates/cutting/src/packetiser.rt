@@ -5,7 +5,7 @@ ghost use Rattle.cutting.specs.Counters.{zlp_of, next_of, pid_of, owed_after, ou
 use crate::transfer_type::TransferType;
 
 // What a slot is armed with: slot 0 or 1, DATA0 or DATA1, the mark of the last packet, and the length.
-#[derive(Drop)]
+#[derive(Clone, Copy)]
 pub struct Arm {
     pub slot: bool,
     pub pid: bool,
@@ -13,21 +13,21 @@ pub struct Arm {
     pub length: u8,
 }
 
-#[derive(Drop)]
+#[derive(Clone, Copy)]
 pub enum OptionArm {
     Some(Arm),
     None,
 }
 
 // `next_packet`'s answer in the Rust: a length and a mark, or none.
-#[derive(Drop)]
+#[derive(Clone, Copy)]
 pub enum Next {
     Packet(u8, bool),
     End,
 }
 
 // `next_prep`, `initial_pid`, `remain`, `offset`, `packet_size` and `need_zero_size_packet` of the Rust.
-#[derive(Drop)]
+#[derive(Clone, Copy)]
 pub struct OutCounters {
     pub slot: bool,
     pub pid: bool,
@@ -38,20 +38,20 @@ pub struct OutCounters {
 }
 
 // The caller's bytes beside the counters.
-#[derive(Drop)]
+#[derive(Clone, Copy)]
 pub struct OutPacketiser<'a> {
     pub counters: OutCounters,
     pub buf: &'a [u8],
 }
 
-#[derive(Drop)]
+#[derive(Clone, Copy)]
 pub struct OutNext {
     pub arm: OptionArm,
     pub rest: OutCounters,
 }
 
 // `next_prep`, `initial_toggle`, `remain`, `packet_size` and `need_zero_size_packet` of the Rust.
-#[derive(Drop)]
+#[derive(Clone, Copy)]
 pub struct InPacketiser {
     pub slot: bool,
     pub pid: bool,
@@ -60,7 +60,7 @@ pub struct InPacketiser {
     pub zlp: bool,
 }
 
-#[derive(Drop)]
+#[derive(Clone, Copy)]
 pub struct InNext {
     pub arm: OptionArm,
     pub rest: InPacketiser,

@@ -1,5 +1,5 @@
 // Whether the receiver knows a transfer's size (`TransferType` of host_controller.rs).
-#[derive(Drop)]
+#[derive(Clone, Copy)]
 pub enum TransferType {
     FixedSize,
     VariableSize,

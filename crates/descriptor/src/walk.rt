@@ -6,7 +6,7 @@ ghost use Rattle.descriptor.specs.Reply.{type_number, walk_reply};
 use crate::refusal::Refusal;
 
 // An endpoint's transfer type.
-#[derive(Drop)]
+#[derive(Clone, Copy)]
 pub enum EndpointKind {
     Control,
     Isochronous,
@@ -14,7 +14,7 @@ pub enum EndpointKind {
     Interrupt,
 }
 
-#[derive(Drop)]
+#[derive(Clone, Copy)]
 pub struct Endpoint {
     pub address: u8,
     pub kind: EndpointKind,
@@ -23,7 +23,7 @@ pub struct Endpoint {
 }
 
 // A descriptor other than an endpoint's, an endpoint's with its fields, the end, or a refusal.
-#[derive(Drop)]
+#[derive(Clone, Copy)]
 pub enum WalkAnswer {
     Descriptor,
     Endpoint(Endpoint),

@@ -1,4 +1,6 @@
 // Lists the descriptors of many configurations.
+#![tactic(auto)]
+
 use cases::{Kind, print_cases};
 
 fn main() {

@@ -1,4 +1,6 @@
 // The descriptors of a configuration on standard output, one a line.
+#![tactic(auto)]
+
 ghost use Rattle.std.specs.Prelude.{◌≡◌, ◌≤◌, length};
 ghost use Rattle.descriptor.specs.Walk.{walk_of};
 ghost use Rattle.descriptorlisting.specs.Turn.{turn_of};
@@ -10,7 +12,7 @@ use libc::STDOUT_FILENO;
 use printing::{print_byte, print_end, print_number, print_refused, print_text};
 
 // The next position, or the listing is over.
-#[derive(Drop)]
+#[derive(Clone, Copy)]
 pub enum Turn {
     More(usize),
     Ended,

@@ -1,4 +1,6 @@
 // Lists the descriptors of the configuration on standard input.
+#![tactic(auto)]
+
 use descriptorlisting::print_configuration;
 use input::{first, read_input};
 

@@ -1,12 +1,14 @@
 // Whose turn it is on the control pipe: eight callers, each with at most one transfer waiting, and with so many bytes a frame.
 // Nothing here knows what a transfer is: whether one is under way is said with each call, `idle` if none is, and how many bytes it asks for with its coming.
 // Steps and cancels don't touch a dispatcher. The turn that passes when a transfer ends is handed out by the next call here, as of that end.
+#![tactic(auto)]
+
 ghost use Rattle.std.specs.Prelude.{◌≡◌, false, cond, ◌+◌, get_or, set, leb};
 ghost use Rattle.dispatcher.specs.Dispatcher.{pending_at, quota_at, has_room, fits, after, next_turn, settled, current, whose, fresh, in_frame, submits, observes, starts};
 
 // `requested` is what the transfer of each caller that waits will be charged; `quota` the share of each, in bytes a frame, `used` its spent count; `turn` the caller whose
 // turn it is, 8 if nobody's; `last` the last that started; `frame` the frame number last seen.
-#[derive(Drop)]
+#[derive(Clone, Copy)]
 pub struct Dispatcher {
     pub pending: [bool; 8],
     pub requested: [usize; 8],

@@ -13,7 +13,7 @@ use transfers::host_controller::{DataPhase, TransferExtras};
 use transfers::wire::SetupPacket;
 
 // What a caller came with, and the bytes that the dispatcher has for it.
-#[derive(Drop)]
+#[derive(Clone, Copy)]
 pub(crate) struct Came {
     pub fields: Fields,
     pub requested: usize,

@@ -1,4 +1,6 @@
 // Runs what no replay script can give: smallest inputs of docs/DIFFERENCES.md, and forged states at the bounds of 16.
+#![tactic(auto)]
+
 mod bounds;
 mod callers;
 mod forged;

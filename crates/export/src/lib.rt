@@ -1,4 +1,6 @@
 // A record's packets as they stand on the wire: "exported entry by entry".
+#![tactic(auto)]
+
 ghost use Rattle.std.specs.Prelude.{◌≡◌, List, [], ◌∷◌, ◌++◌, ℕ, ◌+◌, ◌≤◌, length, drop};
 ghost use Rattle.packet.specs.Packet.{token as tokenPacket, payload as dataPacket};
 ghost use Rattle.record.specs.Bytes.{encode_element};
@@ -18,14 +20,14 @@ use record::reader::{CheckAnswer, check};
 use record::refusal::Refusal;
 
 // How many bytes were written.
-#[derive(Drop)]
+#[derive(Clone, Copy)]
 pub enum ExportAnswer {
     Used(usize),
     Refused(Refusal),
 }
 
 // How many bytes the entry at a position has, and its token and data packet; all 0 where there is no entry.
-#[derive(Drop)]
+#[derive(Clone, Copy)]
 pub struct Lengths {
     pub entry: usize,
     pub token: usize,

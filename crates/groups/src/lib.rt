@@ -1,18 +1,20 @@
 // Every short group, in order: each as its packet count and then its packets' lengths.
+#![tactic(auto)]
+
 ghost use Rattle.std.specs.Prelude.{◌≡◌, ◌≤◌, length, take};
 ghost use Rattle.std.proofs.lemmas.List.Edits.{sets};
 ghost use Rattle.groups.specs.Listing.{list_bytes, Listed};
 ghost use Rattle.groups.specs.Refusal.{number_of};
 
 // Why nothing is listed.
-#[derive(Drop)]
+#[derive(Clone, Copy)]
 pub enum Refusal {
     Limit,
     Room,
 }
 
 // How many bytes were written, or why none.
-#[derive(Drop)]
+#[derive(Clone, Copy)]
 pub enum GroupsAnswer {
     Used(usize),
     Refused(Refusal),

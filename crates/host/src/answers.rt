@@ -5,7 +5,7 @@ ghost use Rattle.host.specs.Refusal.{number_of};
 use transfers::refusal::Refusal;
 
 // 32, 33, 34, then as begin.
-#[derive(Drop)]
+#[derive(Clone, Copy)]
 pub enum SubmitRefusal {
     Caller,
     Pending,
@@ -13,20 +13,20 @@ pub enum SubmitRefusal {
     Begin(Refusal),
 }
 
-#[derive(Drop)]
+#[derive(Clone, Copy)]
 pub enum SubmitAnswer {
     Accepted,
     Refused(SubmitRefusal),
 }
 
-#[derive(Drop)]
+#[derive(Clone, Copy)]
 pub enum TurnAnswer {
     Turn(u8),
     Nobody,
 }
 
 // The caller whose transfer started.
-#[derive(Drop)]
+#[derive(Clone, Copy)]
 pub enum StartAnswer {
     Started(u8),
     Refused(Refusal),

@@ -19,20 +19,20 @@ use transfers::refusal::OptionRefusal;
 use transfers::wire::SetupPacket;
 
 // The driver's own calls go on the field: `let r = host.driver.step_in(..); let n = r.next; host.driver = n;`.
-#[derive(Drop)]
+#[derive(Clone, Copy)]
 pub struct HostController {
     pub driver: Driver,
     pub dispatcher: Dispatcher,
     pub submissions: [Submission; 8],
 }
 
-#[derive(Drop)]
+#[derive(Clone, Copy)]
 pub struct SubmitResult {
     pub next: HostController,
     pub answer: SubmitAnswer,
 }
 
-#[derive(Drop)]
+#[derive(Clone, Copy)]
 pub struct TurnResult {
     pub next: HostController,
     pub answer: TurnAnswer,

@@ -9,7 +9,7 @@ use transfers::refusal::OptionRefusal;
 use transfers::state::endpoint_good;
 use transfers::wire::SetupPacket;
 
-#[derive(Drop)]
+#[derive(Clone, Copy)]
 pub struct ControlFields {
     pub address: u8,
     pub extras: TransferExtras,
@@ -19,7 +19,7 @@ pub struct ControlFields {
     pub length: usize,
 }
 
-#[derive(Drop)]
+#[derive(Clone, Copy)]
 pub struct BulkFields {
     pub address: u8,
     pub endpoint: u8,
@@ -30,7 +30,7 @@ pub struct BulkFields {
 }
 
 // One kind for each start.
-#[derive(Drop)]
+#[derive(Clone, Copy)]
 pub enum Fields {
     Control(ControlFields),
     BulkIn(BulkFields),
@@ -38,7 +38,7 @@ pub enum Fields {
 }
 
 // What a caller came with last.
-#[derive(Drop)]
+#[derive(Clone, Copy)]
 pub struct Submission {
     pub fields: Fields,
 }

@@ -13,7 +13,7 @@ use transfers::memory::lent_fits;
 use transfers::refusal::{OptionRefusal, Refusal};
 
 // `armed` and `writes` are begin's.
-#[derive(Drop)]
+#[derive(Clone, Copy)]
 pub struct StartResult {
     pub next: HostController,
     pub answer: StartAnswer,
@@ -22,13 +22,13 @@ pub struct StartResult {
 }
 
 // Who starts next, and what it came with.
-#[derive(Drop)]
+#[derive(Clone, Copy)]
 pub(crate) struct NextStart {
     pub caller: u8,
     pub fields: Fields,
 }
 
-#[derive(Drop)]
+#[derive(Clone, Copy)]
 pub(crate) enum OptionStart {
     Ready(NextStart),
     Unready,

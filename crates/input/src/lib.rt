@@ -1,4 +1,6 @@
 // What the listings read: one input, which is all of standard input.
+#![tactic(auto)]
+
 ghost use Rattle.std.specs.Prelude.{◌≡◌, ◌<◌, ltb, length, take};
 
 use libc::STDIN_FILENO;

@@ -1,4 +1,6 @@
 // A record's listing on standard output, as document 01 shows it.
+#![tactic(auto)]
+
 ghost use Rattle.std.specs.Prelude.{◌≡◌, ◌≤◌, ◌<◌, length};
 ghost use Rattle.transfers.specs.Reply.{number};
 ghost use Rattle.record.specs.Grammar.{Bytes};
@@ -46,7 +48,7 @@ fn print_bulk(b: BulkItem) {
 }
 
 // The next cursor, or no more items.
-#[derive(Drop)]
+#[derive(Clone, Copy)]
 enum Turn {
     More(Cursor),
     Ended,

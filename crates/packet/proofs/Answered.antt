@@ -8,7 +8,7 @@ use lib.Dec.{eqb, leb}
 use lib.ListN.{length, take, drop, get_or}
 use lib.Seq.{take_all}
 use borrow.Author.Tests.{eq-eqb, ne_eqb, le-leb, lt-leb, leb-true, leb-false}
-use Rattle.pool.proofs.Cases.{byCases}
+use Rattle.pool.proofs.Cases.{by_cases}
 use Rattle.packet.specs.Crc.{crc16_of}
 use Rattle.packet.specs.Packet.{Packet, token, sof, payload, handshake, checked, kind_of}
 use Rattle.packet.specs.Reply.{Reply, result, number}
@@ -90,7 +90,7 @@ handed_rest (token_kind k) x l b d e =
     absurd (let q = eleven_no_data l (token k (word_at l 0 % 128) (word_at l 0 / 128 % 16)) b d e in let z : ◌≡◌ {A = ℕ} 0 1 = cc in omega arith)
 handed_rest sof_kind x l b d e = absurd (let q = eleven_no_data l (sof (word_at l 0 % 2048)) b d e in let z : ◌≡◌ {A = ℕ} 0 1 = cc in omega arith)
 handed_rest (data_kind c) x l b d e =
-    byCases (leb 2 (length l))
+    by_cases (leb 2 (length l))
     (λ (g : leb 2 (length l) ≡ true). record {
       least = omega (arith, leb-true 2 (length l) g);
       part = cut ∙ go (leb 2 (length l) && leb (length l) 66) (eqb (word_at l (length l - 2)) (crc16_of (take (length l - 2) l))) e;

@@ -3,14 +3,14 @@ ghost use Rattle.std.specs.Prelude.{◌≡◌, ◌≤◌};
 ghost use Rattle.packet.specs.Packet.{token_pid, data_pid, handshake_pid, pid_byte, kind_of};
 
 // Tokens with an address and an endpoint.
-#[derive(Drop)]
+#[derive(Clone, Copy)]
 pub enum Token {
     Out,
     In,
     Setup,
 }
 
-#[derive(Drop)]
+#[derive(Clone, Copy)]
 pub enum Handshake {
     Ack,
     Nak,
@@ -18,7 +18,7 @@ pub enum Handshake {
 }
 
 // What a PID byte begins. Data is DATA1 where the bool is true.
-#[derive(Drop)]
+#[derive(Clone, Copy)]
 pub enum Kind {
     Token(Token),
     Sof,

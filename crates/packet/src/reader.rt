@@ -8,7 +8,7 @@ use crate::packet::{Handshake, Kind, Token, kind_of};
 use crate::refusal::Refusal;
 
 // A token's address and endpoint, SOF's frame number, DATA0 (false) or DATA1, whose bytes `data_of` hands out, or a handshake.
-#[derive(Drop)]
+#[derive(Clone, Copy)]
 pub enum Reading {
     Token(Token, u8, u8),
     Sof(u16),

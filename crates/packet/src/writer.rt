@@ -11,7 +11,7 @@ use crate::put::{has_room, put_data, put_three};
 use crate::refusal::Refusal;
 
 // How many bytes are used then.
-#[derive(Drop)]
+#[derive(Clone, Copy)]
 pub enum WriteAnswer {
     Used(usize),
     Refused(Refusal),

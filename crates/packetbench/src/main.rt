@@ -1,4 +1,6 @@
 // The benchmark of packets: a workload named by a letter on standard input (docs/BENCHMARKS.md), then what it left.
+#![tactic(auto)]
+
 use export::{ExportAnswer, export};
 use libc::{STDIN_FILENO, STDOUT_FILENO};
 use packet::crc::crc16;

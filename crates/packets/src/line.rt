@@ -9,7 +9,7 @@ use script::line::is_skipped;
 use script::typed::{OptionByte, OptionHalf, byte_at, bytes_at, field, fields, half_at, length_at};
 
 // What a line asks for: `Read` and `WriteData` have their bytes at the start of those lent. `Skipped` is an empty line or a comment, `Wrong` a line that can't be read.
-#[derive(Drop)]
+#[derive(Clone, Copy)]
 pub enum Command {
     Skipped,
     Wrong,

@@ -1,4 +1,6 @@
 // Writes and reads packets, line by line: standard input has packets' bytes and readings, standard output the other of the two for each.
+#![tactic(auto)]
+
 mod answer;
 mod line;
 

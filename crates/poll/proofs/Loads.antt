@@ -7,7 +7,7 @@ use native.Mathlib.Omega.{arith}
 use lib.Dec.{leb}
 use lib.ListN.{length, drop, get_or, get_or-eq_default}
 use borrow.Author.Tests.{leb-true, leb-false}
-use Rattle.pool.proofs.Cases.{byCases}
+use Rattle.pool.proofs.Cases.{by_cases}
 use Rattle.poll.specs.declared.refusal.Refusal.TheVariants.{Format, Bounds}
 use Rattle.poll.specs.declared.table.LoadAnswer.{LoadAnswer}
 use Rattle.poll.specs.declared.table.LoadAnswer.TheVariants.{Taken, Refused}
@@ -44,18 +44,18 @@ of_version1 f t x = rw ((version1_right f t x).0, (version1_right f t x).1)
 deserves : (f : List ℕ) → Deserves f (table_in f)
 unfolding bounded_table
 deserves f =
-    byCases (is_version1 f)
+    by_cases (is_version1 f)
     (λ e. let x = version1_bytes f e in
-    byCases (all_good 0 (drop 5 f))
+    by_cases (all_good 0 (drop 5 f))
     (λ g. taken (drop 5 f) x (good_bounded (drop 5 f) x.entries g) (of_version1 f (drop 5 f) x ∙ rw g))
     (λ g. out_of_bounds (drop 5 f) x (λ b. true≢false (sym (bounded_good (drop 5 f) x.entries b) ∙ g)) (of_version1 f (drop 5 f) x ∙ rw g)))
     (λ e. wrong_format (λ t x. true≢false (sym (version1_right f t x).0 ∙ e)) (refused_format f e))
 
 deserves_only : (f : List ℕ) (y : Reply (List ℕ)) → Deserves f y → y ≡ table_in f
 unfolding bounded_table
-deserves_only f y (wrong_format none e) = e ∙ sym (refused_format f (byCases (is_version1 f) (λ h. absurd (none (drop 5 f) (version1_bytes f h))) (λ h. h)))
+deserves_only f y (wrong_format none e) = e ∙ sym (refused_format f (by_cases (is_version1 f) (λ h. absurd (none (drop 5 f) (version1_bytes f h))) (λ h. h)))
 deserves_only f y (out_of_bounds t x out e) =
-    let bad = byCases (all_good 0 t) (λ g. absurd (out (good_bounded t x.entries g))) (λ g. g) in
+    let bad = by_cases (all_good 0 t) (λ g. absurd (out (good_bounded t x.entries g))) (λ g. g) in
     e ∙ sym (of_version1 f t x ∙ rw bad)
 deserves_only f y (taken t x b e) = e ∙ sym (of_version1 f t x ∙ rw (bounded_good t x.entries b))
 
@@ -122,7 +122,7 @@ pub record Within (t : List ℕ) : Type 0 where
 within_all : (t : List ℕ) → length t ≡ 256 → ((i : ℕ) → i ≤ 255 → get_or t i 0 ≤ i) → Within t
 within_all t n h = record {
   whole = n;
-  most = λ i. byCases (leb i 255) (λ e. h i (leb-true i 255 e)) (λ e. (
+  most = λ i. by_cases (leb i 255) (λ e. h i (leb-true i 255 e)) (λ e. (
       let far = leb-false i 255 e in
       let none = get_or-eq_default t 0 {n = i} (omega (arith, n, far)) in
       omega (arith, none)));

@@ -18,14 +18,14 @@ const BUILT_IN: [u8; 256] = [
 ];
 
 // Whether the file's table was taken, or why not.
-#[derive(Drop)]
+#[derive(Clone, Copy)]
 pub enum LoadAnswer {
     Taken,
     Refused(Refusal),
 }
 
 // The table afterwards.
-#[derive(Drop)]
+#[derive(Clone, Copy)]
 pub struct Loaded {
     pub table: [u8; 256],
     pub answer: LoadAnswer,

@@ -1,7 +1,7 @@
 -- Laws of sets: who is a member after each operation, and what the lowest number of a kind is. Assumes nothing.
 use Prim.Native.Nat.{ℕ, zero, suc, ◌+◌, ◌*◌, ◌-◌, ◌/◌, ◌%◌, ◌^◌, ◌<◌, ◌≤◌}
 use mathlib.Core.Path.{◌≡◌, refl, ap, ap₂, sym, ◌∙◌}
-use mathlib.Core.Bool.{Bool, true, false, cond, not, ◌&&◌, ◌||◌, or_false, true≢false}
+use mathlib.Core.Bool.{Bool, true, false, cond, not, ◌&&◌, ◌||◌, or-false, true≢false}
 use native.Mathlib.Nat.{pow-suc}
 use native.Mathlib.Omega.{arith}
 use lib.Dec.{eqb, ltb, leb-suc-zero, leb-suc-suc}
@@ -102,7 +102,7 @@ set_of_is s f h e =
 pub insert_past : (s n : ℕ) → s < 2 ^ 32 → 32 ≤ n → insert s n ≡ s
 unfolding insert
 insert_past s n h l =
-    set_of_is s (λ k. has s k || eqb k n) h (λ k q. rw (ne_eqb k n (λ e. omega arith)) (sym (or_false (has s k))))
+    set_of_is s (λ k. has s k || eqb k n) h (λ k q. rw (ne_eqb k n (λ e. omega arith)) (sym (or-false (has s k))))
 
 without : (b t : Bool) → (t ≡ true → b ≡ false) → b ≡ (b && not t)
 without true true h = h refl

@@ -4,29 +4,29 @@ ghost use Rattle.pool.specs.Pool.{new_pool, alloc_of, free_of};
 use crate::bitset::{BitSet, OptionU8};
 
 // Which of a pool's things, counted from 0.
-#[derive(Drop)]
+#[derive(Clone, Copy)]
 pub struct PoolIndex(pub u8);
 
-#[derive(Drop)]
+#[derive(Clone, Copy)]
 pub enum OptionIndex {
     Some(PoolIndex),
     None,
 }
 
-#[derive(Drop)]
+#[derive(Clone, Copy)]
 pub struct Pool {
     pub total: u8,
     pub allocated: BitSet,
 }
 
-#[derive(Drop)]
+#[derive(Clone, Copy)]
 pub struct Allocated {
     pub pool: Pool,
     pub index: OptionIndex,
 }
 
 // The pool after free, and whether the index was allocated.
-#[derive(Drop)]
+#[derive(Clone, Copy)]
 pub struct Freed {
     pub pool: Pool,
     pub was: bool,

@@ -2,17 +2,17 @@ ghost use Rattle.std.specs.Prelude.{◌≡◌};
 ghost use Rattle.pool.specs.Set.{has, insert, remove, set_any_of};
 
 // A set of the numbers 0 to 31: bit n is 1 where n is a member.
-#[derive(Drop)]
+#[derive(Clone, Copy)]
 pub struct BitSet(pub u32);
 
-#[derive(Drop)]
+#[derive(Clone, Copy)]
 pub enum OptionU8 {
     Some(u8),
     None,
 }
 
 // The set after set_any, and the number that it took.
-#[derive(Drop)]
+#[derive(Clone, Copy)]
 pub struct Taken {
     pub set: BitSet,
     pub number: OptionU8,

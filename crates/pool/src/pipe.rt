@@ -4,10 +4,10 @@ ghost use Rattle.pool.specs.Pipe.{pipe_of, index_of};
 use crate::async_pool::{OptionIndex, PoolIndex};
 
 // The number of an interrupt pipe, counted from 1.
-#[derive(Drop)]
+#[derive(Clone, Copy)]
 pub struct PipeNumber(pub u8);
 
-#[derive(Drop)]
+#[derive(Clone, Copy)]
 pub enum OptionPipe {
     Some(PipeNumber),
     None,

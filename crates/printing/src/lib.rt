@@ -1,4 +1,6 @@
 // What the listings on standard output print alike.
+#![tactic(auto)]
+
 use libc::STDOUT_FILENO;
 
 pub fn print_text(text: &[u8]) {

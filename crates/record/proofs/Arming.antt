@@ -7,7 +7,7 @@ use native.Mathlib.Omega.{arith}
 use lib.ListN.{length, take, drop, length-drop}
 use lib.Seq.{sets, length-take-le}
 use lib.Dec.{ltb}
-use Rattle.pool.proofs.Cases.{byCases}
+use Rattle.pool.proofs.Cases.{by_cases}
 use Rattle.cutting.specs.declared.packetiser.Arm.{Arm}
 use Rattle.cutting.specs.declared.packetiser.OptionArm.{OptionArm}
 use Rattle.cutting.specs.declared.packetiser.OptionArm.TheVariants.{Some, None}
@@ -171,7 +171,7 @@ module _ (buf : List ℕ) where
 
   one : (w : ℕ) (c : OutCounters) (ks : Packets) (k : ℕ) (m : List ℕ) → OutLeft buf c ks → One (may_arm w k c.slot) c ks k m (out_arm w c k buf m)
   unfolding out_arm
-  one w c ks k m l = byCases (may_arm w k c.slot)
+  one w c ks k m l = by_cases (may_arm w k c.slot)
       (λ (q : may_arm w k c.slot ≡ true). may q l)
       (λ (q : may_arm w k c.slot ≡ false). skip (ap (λ (b : Bool). out_arm_if b c k buf m) q) (λ (r : may_arm w k c.slot ≡ true). absurd (true≢false (sym r ∙ q))))
     where

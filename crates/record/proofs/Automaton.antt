@@ -9,7 +9,7 @@ use native.Mathlib.Omega.{arith}
 use lib.ListN.{length, length-append, replicate, length-replicate}
 use lib.Dec.{eqb, leb, ltb}
 use borrow.Author.Tests.{eqb-true, eqb-false, leb-true, leb-false, ltb-true, eq-eqb, ne_eqb, le-leb, lt-ltb}
-use Rattle.pool.proofs.Cases.{byCases}
+use Rattle.pool.proofs.Cases.{by_cases}
 use Rattle.record.specs.Grammar.{Four, Entry, setup, out, w_length_in, Bytes, FourBytes, group, group_bytes, AllOf, Sizes, Sent, Part, bulk_part, control_part, sent_entries, SentFits, AllFit, parts_entries, PlainReading, four, no_group, one_group}
 use Rattle.record.specs.Scan.{guard, bulk_start, control_start, bulk_next, control_next, feed, feed_all, starts, count_all, Ends, InRange, AllInRange}
 use Rattle.record.specs.declared.scan.Scan.{Scan}
@@ -148,7 +148,7 @@ bulk_start_sound a e b false l r s' h q k =
     more_group a e b l r h.0 (leb-true 1 e (and_left (leb 1 e) (leb 1 (length l)) g.0)) h.1 (leb-true 1 (length l) (and_right (leb 1 e) (leb 1 (length l)) g.0)) h.2 h.3 (subst (λ (v : Scan). Lang v r) (sym g.1) k)
 
 one_fits : (wl : ℕ) (l : List ℕ) → length l ≤ 64 → Bytes l → (eqb (length l) 0 || eqb (length l) wl) ≡ true → SentOf wl (one_group [] l)
-one_fits wl l h hb e = byCases (eqb (length l) 0)
+one_fits wl l h hb e = by_cases (eqb (length l) 0)
     (λ (q : eqb (length l) 0 ≡ true). inl (refl, nil_of l (eqb-true (length l) 0 q)))
     (λ (q : eqb (length l) 0 ≡ false).
     let u : eqb (length l) wl ≡ true = rw q at e in
@@ -309,7 +309,7 @@ sound : (s s' : Scan) (e : Entry) (r : List Entry) → Small s → InRange e →
 sound between s' (setup a lo hi) r m h q k = setup_part a lo hi r h.0 h.1 h.2 (subst (λ (v : Scan). Lang v r) (sym (let z : after_setup a (w_length_in hi) ≡ s' = cc in z)) k)
 sound between s' (out a e b last l) r m h q k = bulk_start_sound a e b last l r s' h q k
 sound (after_setup a wl) s' (setup a' lo hi') r m h q k = no_sent a wl (setup a' lo hi' ∷ r) (setup_part a' lo hi' r h.0 h.1 h.2 (subst (λ (v : Scan). Lang v r) (sym (let z : after_setup a' (w_length_in hi') ≡ s' = cc in z)) k))
-sound (after_setup a wl) s' (out a' e b last l) r m h q k = byCases (eqb e 0)
+sound (after_setup a wl) s' (out a' e b last l) r m h q k = by_cases (eqb e 0)
     (λ (z : eqb e 0 ≡ true).
     let u : 0 ≡ e = sym (eqb-true e 0 z) in
     let g : control_start a wl a' b last (length l) ≡ some s' = rw z at q in
@@ -514,7 +514,7 @@ met_next : (s s' : Scan) (e : Entry) → Met s → InRange e → feed s e ≡ so
 met_next between s' (setup a lo hi) m h q = subst Met (let z : after_setup a (w_length_in hi) ≡ s' = cc in z) (h.0, length_small hi h.2)
 met_next between s' (out a e b last l) m h q = bulk_start_met a e b last l s' h q
 met_next (after_setup a wl) s' (setup a' lo hi') m h q = subst Met (let z : after_setup a' (w_length_in hi') ≡ s' = cc in z) (h.0, length_small hi' h.2)
-met_next (after_setup a wl) s' (out a' e b last l) m h q = byCases (eqb e 0) (λ (z : eqb e 0 ≡ true). start last (rw z at q)) (λ (z : eqb e 0 ≡ false). bulk_start_met a' e b last l s' h (rw z at q))
+met_next (after_setup a wl) s' (out a' e b last l) m h q = by_cases (eqb e 0) (λ (z : eqb e 0 ≡ true). start last (rw z at q)) (λ (z : eqb e 0 ≡ false). bulk_start_met a' e b last l s' h (rw z at q))
   where
     start : (last : Bool) → control_start a wl a' b last (length l) ≡ some s' → Met s'
     start true g = guard_met (eqb a' a && (b && (eqb (length l) 0 || eqb (length l) wl))) between s' (λ z. tt) g
@@ -590,7 +590,7 @@ record Filled (p n : ℕ) : Type 0 where
 
 fill : (f p n : ℕ) → 1 ≤ p → 1 ≤ n → n ≤ f → Filled p n
 fill zero p n hp hn hf = absurd (omega arith)
-fill (suc f) p n hp hn hf = byCases (leb n p)
+fill (suc f) p n hp hn hf = by_cases (leb n p)
     (λ (q : leb n p ≡ true).
     let e : length (replicate n 0) ≡ n = length-replicate {A = ℕ} n 0 in
     record { xs = []; l = replicate n 0; full = tt; short = let v = leb-true n p q in omega arith; some_last = omega arith; total = e; are = zeros n })

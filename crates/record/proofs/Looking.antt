@@ -8,7 +8,7 @@ use native.Mathlib.Omega.{arith}
 use lib.ListN.{length, get_or}
 use lib.Dec.{eqb, leb}
 use borrow.Author.Tests.{eqb-true, leb-true}
-use Rattle.pool.proofs.Cases.{byCases}
+use Rattle.pool.proofs.Cases.{by_cases}
 use Rattle.record.specs.Reader.{look_setup, fields_fit, look_out, look_failed, look}
 use Rattle.record.specs.declared.look.OutHead.{OutHead}
 use Rattle.record.specs.declared.look.Look.{Look}
@@ -59,17 +59,17 @@ fields l k h w =
 
 see_setup : (l : List ℕ) → get_or l 0 0 ≡ 0x53 → Seen l (look_setup l)
 unfolding look_setup
-see_setup l k = byCases (leb 10 (length l))
-    (λ (p : leb 10 (length l) ≡ true). byCases (leb (get_or l 1 0) 127)
+see_setup l k = by_cases (leb 10 (length l))
+    (λ (p : leb 10 (length l) ≡ true). by_cases (leb (get_or l 1 0) 127)
     (λ (q : leb (get_or l 1 0) 127 ≡ true). seen_setup k (leb-true 10 (length l) p) (leb-true (get_or l 1 0) 127 q) (rw (p, q)))
     (λ (q : leb (get_or l 1 0) 127 ≡ false). seen_bad (rw (p, q))))
     (λ (p : leb 10 (length l) ≡ false). seen_bad (rw p))
 
 see_out : (l : List ℕ) → get_or l 0 0 ≡ 0x4F → Seen l (look_out l)
 unfolding look_out
-see_out l k = byCases (leb 6 (length l))
-    (λ (p : leb 6 (length l) ≡ true). byCases (fields_fit (get_or l 1 0) (get_or l 2 0) (get_or l 3 0) (get_or l 4 0) (get_or l 5 0))
-    (λ (q : fields_fit (get_or l 1 0) (get_or l 2 0) (get_or l 3 0) (get_or l 4 0) (get_or l 5 0) ≡ true). byCases (leb (6 + get_or l 5 0) (length l))
+see_out l k = by_cases (leb 6 (length l))
+    (λ (p : leb 6 (length l) ≡ true). by_cases (fields_fit (get_or l 1 0) (get_or l 2 0) (get_or l 3 0) (get_or l 4 0) (get_or l 5 0))
+    (λ (q : fields_fit (get_or l 1 0) (get_or l 2 0) (get_or l 3 0) (get_or l 4 0) (get_or l 5 0) ≡ true). by_cases (leb (6 + get_or l 5 0) (length l))
     (λ (r : leb (6 + get_or l 5 0) (length l) ≡ true). seen_out (fields l k q (leb-true (6 + get_or l 5 0) (length l) r)) (rw (p, q, r)))
     (λ (r : leb (6 + get_or l 5 0) (length l) ≡ false). seen_bad (rw (p, q, r))))
     (λ (q : fields_fit (get_or l 1 0) (get_or l 2 0) (get_or l 3 0) (get_or l 4 0) (get_or l 5 0) ≡ false). seen_bad (rw (p, q))))
@@ -77,19 +77,19 @@ see_out l k = byCases (leb 6 (length l))
 
 see_failed : (l : List ℕ) → get_or l 0 0 ≡ 0x58 → Seen l (look_failed l)
 unfolding look_failed
-see_failed l k = byCases (leb 5 (length l))
+see_failed l k = by_cases (leb 5 (length l))
     (λ (p : leb 5 (length l) ≡ true). seen_failed k (leb-true 5 (length l) p) (rw p))
     (λ (p : leb 5 (length l) ≡ false). seen_bad (rw p))
 
 pub seen : (l : List ℕ) → Seen l (look l)
 unfolding look
-seen l = byCases (eqb (length l) 0)
+seen l = by_cases (eqb (length l) 0)
     (λ (e : eqb (length l) 0 ≡ true). seen_end (eqb-true (length l) 0 e) (rw e))
-    (λ (e : eqb (length l) 0 ≡ false). byCases (eqb (get_or l 0 0) 0x53)
+    (λ (e : eqb (length l) 0 ≡ false). by_cases (eqb (get_or l 0 0) 0x53)
     (λ (k : eqb (get_or l 0 0) 0x53 ≡ true). rw (e, k) (see_setup l (eqb-true (get_or l 0 0) 0x53 k)))
-    (λ (k : eqb (get_or l 0 0) 0x53 ≡ false). byCases (eqb (get_or l 0 0) 0x4F)
+    (λ (k : eqb (get_or l 0 0) 0x53 ≡ false). by_cases (eqb (get_or l 0 0) 0x4F)
     (λ (j : eqb (get_or l 0 0) 0x4F ≡ true). rw (e, k, j) (see_out l (eqb-true (get_or l 0 0) 0x4F j)))
-    (λ (j : eqb (get_or l 0 0) 0x4F ≡ false). byCases (eqb (get_or l 0 0) 0x58)
+    (λ (j : eqb (get_or l 0 0) 0x4F ≡ false). by_cases (eqb (get_or l 0 0) 0x58)
     (λ (i : eqb (get_or l 0 0) 0x58 ≡ true). rw (e, k, j, i) (see_failed l (eqb-true (get_or l 0 0) 0x58 i)))
     (λ (i : eqb (get_or l 0 0) 0x58 ≡ false). rw (e, k, j, i) (seen_bad refl)))))
 

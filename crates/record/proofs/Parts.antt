@@ -8,7 +8,7 @@ use native.Mathlib.Omega.{arith}
 use lib.ListN.{length, take, drop, take-append-drop, length-drop}
 use lib.Seq.{length-take-le}
 use borrow.Author.Tests.{ltb-true, le-ltb}
-use Rattle.pool.proofs.Cases.{byCases}
+use Rattle.pool.proofs.Cases.{by_cases}
 use Rattle.cutting.specs.declared.transfer_type.TransferType.{TransferType}
 use Rattle.cutting.specs.declared.transfer_type.TransferType.TheVariants.{FixedSize, VariableSize}
 use Rattle.cutting.specs.Cut.{out_cut}
@@ -65,10 +65,10 @@ more_halves t p l h q r = record {
 }
 
 pub halves : (n : ℕ) (t : TransferType) (p : ℕ) (l : List ℕ) → 0 < p → length l ≤ n → Halves t p l
-halves zero t p l h k = byCases (more t p (length l))
+halves zero t p l h k = by_cases (more t p (length l))
     (λ (q : more t p (length l) ≡ true). let u : p ≤ length l = more_le t p (length l) q in absurd (omega arith))
     (last_halves t p l h)
-halves (suc n) t p l h k = byCases (more t p (length l))
+halves (suc n) t p l h k = by_cases (more t p (length l))
     (λ (q : more t p (length l) ≡ true).
     let u : p ≤ length l = more_le t p (length l) q in
     let e = length-drop p l in

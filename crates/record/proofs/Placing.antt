@@ -9,7 +9,7 @@ use native.Mathlib.Omega.{arith}
 use lib.ListN.{length, length-append}
 use lib.Dec.{eqb}
 use borrow.Author.Tests.{eqb-true, eq-eqb, ne_eqb}
-use Rattle.pool.proofs.Cases.{byCases}
+use Rattle.pool.proofs.Cases.{by_cases}
 use Rattle.record.specs.Grammar.{four, Entry, setup, out, Part, bulk_part, control_part, part_entries, Fits, AllFit, parts_entries, PlainReading, no_group}
 use Rattle.record.specs.Segments.{Element, entry, failed_entry, FirstPart, Segment, SegmentFits, SegmentsFit, up_to, elements, Reading, unfailed}
 use Rattle.record.specs.Scan.{guard, feed, feed_all, starts, count_all, Ends, InRange, AllInRange}
@@ -69,7 +69,7 @@ record Begins (s s' : Scan) (e : Entry) : Type 0 where
 begins : (s s' : Scan) (e : Entry) → starts s e ≡ 1 → feed s e ≡ some s' → Begins s s' e
 begins between s' e z q = record { ends = tt; fresh = q }
 begins (after_setup a w) s' (setup a' lo hi) z q = record { ends = tt; fresh = q }
-begins (after_setup a w) s' (out a' e b last l) z q = byCases (eqb e 0)
+begins (after_setup a w) s' (out a' e b last l) z q = by_cases (eqb e 0)
     (λ (v : eqb e 0 ≡ true). let y : ◌≡◌ {A = ℕ} 0 1 = rw v at z in absurd-eq y)
     (λ (v : eqb e 0 ≡ false). record { ends = tt; fresh = rw v at q })
 begins (in_bulk a e v p t) s' (setup a' lo hi) z q = none_some s' q
@@ -410,7 +410,7 @@ lost_suc m k = ap (λ (b : Bool). cond b k (k - 1)) (ne_eqb (suc m) 0 (λ (z : s
 come_failed : (ms : List Element) (p : Place) (m : ℕ) → Come ms p → count_right p.scan p.run m ≡ true
     → Come (ms ++ (failed_entry m ∷ [])) (record { scan = between; run = 0; count = lost m p.count })
 unfolding one
-come_failed ms p m c h = byCases (eqb m p.run)
+come_failed ms p m c h = by_cases (eqb m p.run)
     (λ (q : eqb m p.run ≡ true). all m p.run (eqb-true m p.run q) c.last)
     (λ (q : eqb m p.run ≡ false).
     let u : (eqb m 0 && may_end p.scan) ≡ true = rw q at h in

@@ -10,7 +10,7 @@ use lib.ListN.{length, drop, length-append, length-drop}
 use lib.Seq.{drop-drop, drop-append_seam}
 use lib.Dec.{eqb, leb, lit<}
 use borrow.Author.Tests.{eqb-true, le-leb}
-use Rattle.pool.proofs.Cases.{byCases}
+use Rattle.pool.proofs.Cases.{by_cases}
 use Rattle.transfers.specs.Reply.{Reply, result}
 use Rattle.record.specs.Refusal.{check_reply}
 use Rattle.record.specs.Grammar.{Four, four, FourBytes, Entry, setup, out, Bytes, group, group_bytes, AllOf, Sent, SentFits, sent_entries, Part, bulk_part, control_part, part_entries, Fits, AllFit, parts_entries, no_group, one_group}
@@ -73,7 +73,7 @@ head_is (x ∷ y ∷ z ∷ u ∷ v ∷ s) b h =
     let ez : z ≡ 0x47 = eqb-true z 0x47 (and_left (eqb z 0x47) t₄ h₃) in
     let bu = b.1.1.1.0 in
     let at : cond (leb 5 (length (x ∷ y ∷ z ∷ u ∷ v ∷ s))) w 0 ≡ w = ap (λ (c : Bool). cond c w 0) five in
-    byCases (eqb w 2)
+    by_cases (eqb w 2)
     (λ (q : eqb w 2 ≡ true).
     let e : w ≡ 2 = eqb-true w 2 q in
     let eu : u ≡ 2 = omega arith in
@@ -381,7 +381,7 @@ none_yet false r = refl
 -- The check answers what the bytes deserve.
 pub deserved : (s : List ℕ) → Bytes s → Deserved s (check_of s)
 unfolding check_of
-deserved s b = byCases (head_right s)
+deserved s b = by_cases (head_right s)
     (λ (h : head_right s ≡ true).
     let q = head_is s b h in
     let v = length-drop 5 s in
@@ -582,7 +582,7 @@ pub only_deserved : (s : List ℕ) (a : Reply ℕ) → Bytes s → Verdict s a �
 only_deserved s a b (no_head u q) = ap check_reply unmarked ∙ sym q
   where
     unmarked : check_of s ≡ Refused bad_mark
-    unmarked = byCases (head_right s)
+    unmarked = by_cases (head_right s)
         (λ (h : head_right s ≡ true). let k = head_is s b h in absurd (u.no_head_of k.two (drop 5 s) k.is))
         (λ (h : head_right s ≡ false). check_unmarked s h)
 only_deserved s a b (no_entry u q) =

@@ -5,13 +5,13 @@ ghost use Rattle.record.specs.Items.{first_at, group_of, group_at_of, sent_at, f
 use crate::look::{Look, look_at};
 
 // The position of an item, or the end.
-#[derive(Drop)]
+#[derive(Clone, Copy)]
 pub struct Cursor {
     pub at: usize,
 }
 
 // A control: address, position of its 8 SETUP bytes, count of its OUT bytes.
-#[derive(Drop)]
+#[derive(Clone, Copy)]
 pub struct ControlItem {
     pub address: u8,
     pub setup: usize,
@@ -20,7 +20,7 @@ pub struct ControlItem {
 }
 
 // A bulk group: address, endpoint, first PID, count of its bytes.
-#[derive(Drop)]
+#[derive(Clone, Copy)]
 pub struct BulkItem {
     pub address: u8,
     pub endpoint: u8,
@@ -29,7 +29,7 @@ pub struct BulkItem {
     pub next: Cursor,
 }
 
-#[derive(Drop)]
+#[derive(Clone, Copy)]
 pub enum ItemAnswer {
     Control(ControlItem),
     Bulk(BulkItem),
@@ -38,13 +38,13 @@ pub enum ItemAnswer {
 }
 
 // The position after packets, and the count of their bytes.
-#[derive(Drop)]
+#[derive(Clone, Copy)]
 pub struct Span {
     pub at: usize,
     pub count: usize,
 }
 
-#[derive(Drop)]
+#[derive(Clone, Copy)]
 pub enum SpanTurn {
     More(Span),
     Ended(Span),

@@ -5,7 +5,7 @@ ghost use Rattle.record.specs.Reader.{version_at, head_right, look_setup, fields
 use crate::flags::{both, either};
 
 // An OUT entry without its bytes.
-#[derive(Drop)]
+#[derive(Clone, Copy)]
 pub struct OutHead {
     pub address: u8,
     pub endpoint: u8,
@@ -15,7 +15,7 @@ pub struct OutHead {
 }
 
 // What stands at a position: a SETUP with address and wLength, an OUT packet, a failed transfer's count, no entry, or nothing.
-#[derive(Drop)]
+#[derive(Clone, Copy)]
 pub enum Look {
     Setup(u8, u16),
     Out(OutHead),

@@ -11,14 +11,14 @@ use crate::scan::{
     OptionScan, Scan, feed_failed, feed_out, feed_setup, kept_items, run_on, starts_out,
 };
 
-#[derive(Drop)]
+#[derive(Clone, Copy)]
 pub enum CheckAnswer {
     Transfers(usize),
     Refused(Refusal),
 }
 
 // How far the reader has come: the next entry's position, what may come, the entries of the last item, and the items begun that didn't fail.
-#[derive(Drop)]
+#[derive(Clone, Copy)]
 pub struct Progress {
     pub at: usize,
     pub scan: Scan,
@@ -26,7 +26,7 @@ pub struct Progress {
     pub count: usize,
 }
 
-#[derive(Drop)]
+#[derive(Clone, Copy)]
 pub enum Turn {
     Go(Progress),
     Stop(CheckAnswer),

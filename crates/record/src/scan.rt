@@ -7,7 +7,7 @@ use crate::flags::{both, either, same};
 use crate::look::OutHead;
 
 // Between items; after a SETUP: address and wLength; in a bulk group: address, endpoint, next PID, packet size, bytes so far; in a control's group: address, wLength, next PID, packet size, bytes so far.
-#[derive(Drop)]
+#[derive(Clone, Copy)]
 pub enum Scan {
     Between,
     AfterSetup(u8, u16),
@@ -15,7 +15,7 @@ pub enum Scan {
     InControl(u8, u16, bool, u8, u16),
 }
 
-#[derive(Drop)]
+#[derive(Clone, Copy)]
 pub enum OptionScan {
     Some(Scan),
     None,

@@ -11,7 +11,7 @@ use crate::refusal::Refusal;
 use transfers::answers::{Armed, ArmedOut, ArmedSetup, OptionEntries, OptionOut, OptionSetup};
 use transfers::memory::slot_address;
 
-#[derive(Drop)]
+#[derive(Clone, Copy)]
 pub enum AppendAnswer {
     Used(usize),
     Refused(Refusal),

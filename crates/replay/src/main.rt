@@ -1,4 +1,6 @@
 // Plays a replay script on the driver and prints what each call answers, writes, arms and changes.
+#![tactic(auto)]
+
 mod begin;
 mod play;
 

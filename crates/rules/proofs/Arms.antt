@@ -7,7 +7,7 @@ use native.Mathlib.Omega.{arith}
 use lib.Dec.{ltb}
 use lib.ListN.{length}
 use borrow.Author.Tests.{ltb-true, ltb-false, lt-ltb, le-ltb}
-use Rattle.pool.proofs.Cases.{byCases}
+use Rattle.pool.proofs.Cases.{by_cases}
 use Rattle.cutting.specs.declared.packetiser.Arm.{Arm}
 use Rattle.cutting.specs.declared.packetiser.OptionArm.{OptionArm}
 use Rattle.cutting.specs.declared.packetiser.OptionArm.TheVariants.{Some, None}
@@ -93,7 +93,7 @@ module _ (slots : ℕ) (q : Bool) (p : ℕ) where
     pub events : (old : ℕ) → armings old g.writes ≡ map (shown false) now
 
   same_two : (a r k : ℕ) → a ≡ r + k → ltb k 2 ≡ ltb a (r + 2)
-  same_two a r k e = byCases (ltb k 2)
+  same_two a r k e = by_cases (ltb k 2)
       (λ (h : ltb k 2 ≡ true). let z = ltb-true k 2 h in h ∙ sym (lt-ltb a (r + 2) (omega arith)))
       (λ (h : ltb k 2 ≡ false). let z = ltb-false k 2 h in h ∙ sym (le-ltb a (r + 2) (omega arith)))
 
@@ -126,7 +126,7 @@ module _ (slots : ℕ) (q : Bool) (p : ℕ) where
 
     by_left : (ks : List (Packet ℕ)) → InLeft c ks → left ≡ ks → Arming r (arm_one slots w r a) left (in_arm w c k)
     by_left ks (stop_in e) q = let m = h.many in let z = ap length q in stays (none_left (le-ltb a slots (omega arith))) (arm_end w c k e)
-    by_left ks (go_in {ks = ks'} x e l) q = byCases may
+    by_left ks (go_in {ks = ks'} x e l) q = by_cases may
         (λ (u : may ≡ true).
         let m = h.many in
         let y = ap length q in

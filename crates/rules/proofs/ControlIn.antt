@@ -8,7 +8,7 @@ use lib.Dec.{ltb}
 use lib.ListN.{length, take, length-append}
 use lib.Seq.{take_at}
 use borrow.Author.Tests.{ltb-false}
-use Rattle.pool.proofs.Cases.{byCases}
+use Rattle.pool.proofs.Cases.{by_cases}
 use Rattle.cutting.specs.declared.transfer_type.TransferType.TheVariants.{FixedSize}
 use Rattle.cutting.specs.Retire.{sum}
 use Rattle.cutting.specs.Cut.{Packet, packet, in_cut_of}
@@ -100,7 +100,7 @@ module _ (a p n : ℕ) (first : List ℕ) (few : n ≤ 0xFFFF) (low : 1 ≤ p) (
       let r : Run = record { request = control_x; stage = setup_stage } in
       let w = y.sample.buffers in
       let m = y.memory in
-      byCases (lent_well y)
+      by_cases (lent_well y)
       (λ (l : lent_well y ≡ true).
       let o = step_polls r y buf (fills_may r refl g) e l in
       subst (λ (u : Outcome). SetupComes buf u (ending y)) (sym o)
@@ -158,7 +158,7 @@ module _ (a p n : ℕ) (first : List ℕ) (few : n ≤ 0xFFFF) (low : 1 ≤ p) (
       let r : Run = record { request = control_x; stage = out_stage st } in
       let w = y.sample.buffers in
       let m = y.memory in
-      byCases (lent_well y)
+      by_cases (lent_well y)
       (λ (l : lent_well y ≡ true).
       let o = step_polls r y buf (fills_may r refl g) e l in
       subst (StatusComes st buf) (sym o)

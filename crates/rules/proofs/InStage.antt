@@ -6,7 +6,7 @@ use Prim.Native.Nat.{ℕ, ◌+◌, ◌-◌, ◌≤◌, min}
 use native.Mathlib.Omega.{arith}
 use lib.ListN.{length}
 use borrow.Author.Tests.{eq-eqb}
-use Rattle.pool.proofs.Cases.{byCases}
+use Rattle.pool.proofs.Cases.{by_cases}
 use Rattle.cutting.specs.declared.transfer_type.TransferType.{TransferType}
 use Rattle.cutting.specs.declared.packetiser.InPacketiser.{InPacketiser}
 use Rattle.cutting.specs.declared.depacketiser.InDepacketiser.{InDepacketiser}
@@ -71,7 +71,7 @@ ending y = lent_well y && ends_stage y.sample
 -- A transfer that fills is served by `step_in`.
 pub fills_may : (r : Run) → fills r.request.kind ≡ true → well_formed (Busy r) ≡ true → may_step true r ≡ true
 unfolding served
-fills_may r f h = byCases (may_step true r) (λ (e : may_step true r ≡ true). e)
+fills_may r f h = by_cases (may_step true r) (λ (e : may_step true r ≡ true). e)
     (λ (e : may_step true r ≡ false).
     let g : may_step false r ≡ true = ap (λ (b : Bool). cond b true (may_step false r)) (sym e) ∙ h in
     let s = both (same false (fills r.request.kind)) (stage_fits r.request.kind r.stage) (may_parts false r g).0 in
@@ -268,7 +268,7 @@ module _ (x : Request) (slots n : ℕ) (first : List ℕ) (few : n ≤ 0xFFFF) (
       → Stands st buf s ls → Comes y s ls (step_in (record { transfer = Busy (record { request = x; stage = in_stage st }); buffer = buf }) y)
   comes y st buf s ls f g e h =
       let r : Run = record { request = x; stage = in_stage st } in
-      byCases (lent_well y)
+      by_cases (lent_well y)
       (λ (l : lent_well y ≡ true).
       let o = step_polls r y buf (fills_may r f g) (kept_length n first few room s.retired (in_received st) buf h.flying.kept ∙ e) l in
       subst (Comes y s ls) (sym o) (by_tests y s ls (polls (classify y.sample.status y.sample.intr) x (in_stage st) y.sample.buffers buf y.memory) (quiet y.sample) (complete y.sample) l refl refl

@@ -9,7 +9,7 @@ use lib.Dec.{ltb}
 use lib.ListN.{length, take, drop, length-append, length-drop}
 use lib.Seq.{sets}
 use borrow.Author.Tests.{ltb-true, ltb-false, lt-ltb, le-ltb}
-use Rattle.pool.proofs.Cases.{byCases}
+use Rattle.pool.proofs.Cases.{by_cases}
 use Rattle.cutting.specs.declared.depacketiser.InDepacketiser.{InDepacketiser}
 use Rattle.cutting.specs.Retire.{in_retire}
 use Rattle.transfers.specs.Memory.{slot_address}
@@ -94,7 +94,7 @@ module _ (n : ℕ) (lent : List ℕ) (few : n ≤ 0xFFFF) (room : n ≤ length l
     slot_low true = omega arith
 
     same_flight : (a r k : ℕ) → a ≡ r + k → ltb 0 k ≡ ltb r a
-    same_flight a r k e = byCases (ltb 0 k)
+    same_flight a r k e = by_cases (ltb 0 k)
         (λ (q : ltb 0 k ≡ true). let z = ltb-true 0 k q in q ∙ sym (lt-ltb r a (omega arith)))
         (λ (q : ltb 0 k ≡ false). let z = ltb-false 0 k q in q ∙ sym (le-ltb r a (omega arith)))
 

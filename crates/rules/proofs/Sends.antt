@@ -8,7 +8,7 @@ use lib.Dec.{eqb, leb, ltb}
 use lib.ListN.{length}
 use lib.Seq.{take-length}
 use borrow.Author.Tests.{ltb-true, ltb-false, lt-ltb, le-ltb}
-use Rattle.pool.proofs.Cases.{byCases}
+use Rattle.pool.proofs.Cases.{by_cases}
 use Rattle.cutting.specs.declared.transfer_type.TransferType.{TransferType}
 use Rattle.cutting.specs.declared.packetiser.Arm.{Arm}
 use Rattle.cutting.specs.declared.packetiser.OptionArm.{OptionArm}
@@ -99,12 +99,12 @@ same_full w false = refl
 same_full w true = refl
 
 pub same_flight : (a r k : ℕ) → a ≡ r + k → ltb 0 k ≡ ltb r a
-same_flight a r k e = byCases (ltb 0 k)
+same_flight a r k e = by_cases (ltb 0 k)
     (λ (q : ltb 0 k ≡ true). let z = ltb-true 0 k q in q ∙ sym (lt-ltb r a (omega arith)))
     (λ (q : ltb 0 k ≡ false). let z = ltb-false 0 k q in q ∙ sym (le-ltb r a (omega arith)))
 
 same_two : (a r k : ℕ) → a ≡ r + k → ltb k 2 ≡ ltb a (r + 2)
-same_two a r k e = byCases (ltb k 2)
+same_two a r k e = by_cases (ltb k 2)
     (λ (h : ltb k 2 ≡ true). let z = ltb-true k 2 h in h ∙ sym (lt-ltb a (r + 2) (omega arith)))
     (λ (h : ltb k 2 ≡ false). let z = ltb-false k 2 h in h ∙ sym (le-ltb a (r + 2) (omega arith)))
 
@@ -191,7 +191,7 @@ module _ (packets : ℕ) (b : Bool) (p : ℕ) (first : List ℕ) where
 
     by_left : (ks : List (Packet (List ℕ))) → OutLeft first c ks → h.left ≡ ks → Stands (armed_one w s) (out_arm w c k buf m).packets parity (out_arm w c k buf m).inflight
     by_left ks (stop e) q = let n = h.many in let z = ap length q in stays (none_left (le-ltb s.armed packets (omega arith))) (arm_end w c k buf m e)
-    by_left ks (go {ks = ks'} x e small room l) q = byCases may
+    by_left ks (go {ks = ks'} x e small room l) q = by_cases may
         (λ (u : may ≡ true).
         let i = h.many in
         let y = ap length q in
@@ -225,7 +225,7 @@ module _ (packets : ℕ) (b : Bool) (p : ℕ) (first : List ℕ) where
 -- One that sends is served by `step_out`.
 sends_may : (r : Run) → fills r.request.kind ≡ false → well_formed (Busy r) ≡ true → may_step false r ≡ true
 unfolding served
-sends_may r f h = byCases (may_step true r)
+sends_may r f h = by_cases (may_step true r)
     (λ (e : may_step true r ≡ true).
     let s = both (same true (fills r.request.kind)) (stage_fits r.request.kind r.stage) (may_parts true r e).0 in
     no (sym s.0 ∙ f))

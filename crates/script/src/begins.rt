@@ -9,13 +9,13 @@ use crate::typed::{
     length_at, setup_at, type_at,
 };
 
-#[derive(Drop)]
+#[derive(Clone, Copy)]
 pub enum OptionControl {
     Some(Control),
     None,
 }
 
-#[derive(Drop)]
+#[derive(Clone, Copy)]
 pub enum OptionBulk {
     Some(Bulk),
     None,

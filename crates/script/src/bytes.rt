@@ -11,7 +11,7 @@ use crate::number::{OptionNumber, digit, number};
 pub const LONGEST: u32 = 131072;
 
 // How many bytes there are, at the start of those lent.
-#[derive(Drop)]
+#[derive(Clone, Copy)]
 pub enum OptionCount {
     Some(usize),
     None,

@@ -9,7 +9,7 @@ use crate::typed::{
     length_at, word_at,
 };
 
-#[derive(Drop)]
+#[derive(Clone, Copy)]
 pub enum OptionStep {
     Some(Stepping),
     None,

@@ -1,7 +1,7 @@
 // What a line of a script asks for.
 
 // SETUP as USB 2.0 table 9-2 has it.
-#[derive(Drop)]
+#[derive(Clone, Copy)]
 pub struct Setup {
     pub kind: u8,
     pub request: u8,
@@ -11,7 +11,7 @@ pub struct Setup {
 }
 
 // `count` is LEN, or how many bytes BYTES has; the bytes stand at the start of those lent.
-#[derive(Drop)]
+#[derive(Clone, Copy)]
 pub struct Control {
     pub address: u8,
     pub preamble: bool,
@@ -20,7 +20,7 @@ pub struct Control {
     pub count: usize,
 }
 
-#[derive(Drop)]
+#[derive(Clone, Copy)]
 pub struct Bulk {
     pub address: u8,
     pub endpoint: u8,
@@ -31,26 +31,26 @@ pub struct Bulk {
 }
 
 // The lengths of packet memory and log.
-#[derive(Drop)]
+#[derive(Clone, Copy)]
 pub struct Lent {
     pub memory: usize,
     pub words: usize,
 }
 
-#[derive(Drop)]
+#[derive(Clone, Copy)]
 pub struct Stored {
     pub offset: usize,
     pub count: usize,
 }
 
-#[derive(Drop)]
+#[derive(Clone, Copy)]
 pub struct Stepping {
     pub status: u32,
     pub intr: u32,
     pub buffers: u32,
 }
 
-#[derive(Drop)]
+#[derive(Clone, Copy)]
 pub struct Opening {
     pub address: u8,
     pub preamble: bool,
@@ -59,21 +59,21 @@ pub struct Opening {
     pub interval: u8,
 }
 
-#[derive(Drop)]
+#[derive(Clone, Copy)]
 pub struct Polling {
     pub pipe: u8,
     pub buffer: u32,
     pub target: u32,
 }
 
-#[derive(Drop)]
+#[derive(Clone, Copy)]
 pub struct Interrupt {
     pub ints: u32,
     pub status: u32,
 }
 
 // A line that begins no transfer. `Skipped` is an empty line or a comment, `Wrong` a line that can't be read.
-#[derive(Drop)]
+#[derive(Clone, Copy)]
 pub enum Call {
     Skipped,
     Wrong,
@@ -93,7 +93,7 @@ pub enum Call {
     Record,
 }
 
-#[derive(Drop)]
+#[derive(Clone, Copy)]
 pub enum Command {
     ControlIn(Control),
     ControlOut(Control),

@@ -1,4 +1,6 @@
 // The replay script: its lines read, and its output's numbers and bytes spelled.
+#![tactic(auto)]
+
 pub mod begins;
 pub mod bytes;
 pub mod calls;

@@ -2,7 +2,7 @@
 ghost use Rattle.std.specs.Prelude.{◌≡◌, ◌≤◌, ◌<◌};
 ghost use Rattle.script.specs.Numbers.{digit_of, value_of, is_hex, number_of};
 
-#[derive(Drop)]
+#[derive(Clone, Copy)]
 pub enum OptionNumber {
     Some(u64),
     None,

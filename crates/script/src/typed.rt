@@ -9,31 +9,31 @@ use crate::command::Setup;
 use crate::field::{part, parts, rest, same};
 use crate::number::{OptionNumber, number};
 
-#[derive(Drop)]
+#[derive(Clone, Copy)]
 pub enum OptionByte {
     Some(u8),
     None,
 }
 
-#[derive(Drop)]
+#[derive(Clone, Copy)]
 pub enum OptionHalf {
     Some(u16),
     None,
 }
 
-#[derive(Drop)]
+#[derive(Clone, Copy)]
 pub enum OptionWord {
     Some(u32),
     None,
 }
 
-#[derive(Drop)]
+#[derive(Clone, Copy)]
 pub enum OptionBit {
     Some(bool),
     None,
 }
 
-#[derive(Drop)]
+#[derive(Clone, Copy)]
 pub enum OptionSetup {
     Some(Setup),
     None,

@@ -1,4 +1,6 @@
 // What the programs that play a script share: their state, every line that begins no transfer, what a begin leaves, and the lines of a block.
+#![tactic(auto)]
+
 mod armed;
 pub mod begin;
 pub mod effects;

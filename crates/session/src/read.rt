@@ -9,7 +9,7 @@ use script::text::put;
 
 // `from` to `to` of the chunk is still to be read. The first `length` bytes of the line are of line number `lines` + 1, of which a
 // part is there if `begun`, and for which there was no room if `long`. `whole`: they are line number `lines`.
-#[derive(Drop)]
+#[derive(Clone, Copy)]
 pub struct Place {
     pub from: usize,
     pub to: usize,

@@ -8,7 +8,7 @@ use transfers::driver::{DeskRule, Driver};
 // `memory` and `words` are lent to the calls. `length` is that of begin's buffer, `bulk` begin's kind; `own` is the length of a
 // `buffer` line's bytes, which the next step is lent if `lent` says so. The record has `used` bytes, or was refused.
 // `at` is the place in the output.
-#[derive(Drop)]
+#[derive(Clone, Copy)]
 pub struct State {
     pub driver: Driver,
     pub memory: usize,

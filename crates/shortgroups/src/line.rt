@@ -6,7 +6,7 @@ use script::line::is_skipped;
 use script::typed::{OptionByte, byte_at, fields};
 
 // What a line asks for: the list for a limit, in as many lent bytes. `Skipped` is an empty line or a comment, `Wrong` a line that can't be read.
-#[derive(Drop)]
+#[derive(Clone, Copy)]
 pub enum Command {
     Skipped,
     Wrong,

@@ -1,4 +1,6 @@
 // Lists every short group, line by line: standard input has limits, standard output the groups of each.
+#![tactic(auto)]
+
 mod line;
 
 ghost use Rattle.std.specs.Prelude.{◌≤◌, ◌<◌, length};

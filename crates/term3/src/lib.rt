@@ -1,5 +1,7 @@
 // Theorems over the calls of the host controller: term 3 (`specs/HostCalls.antt`), whose turn it is (`specs/Turns.antt`), what is charged in each frame (`specs/Frames.antt`), and what the calls do to the driver (`specs/Driven.antt`).
 // The functions here are the host controller's own, under contracts in the words of these theorems: a function of `host` whose own contract says less, or something else, is refused here.
+#![tactic(auto)]
+
 ghost use Rattle.std.specs.Prelude.{◌≡◌, length};
 ghost use Rattle.transfers.specs.declared.wire.Direction.TheVariants.{In, Out};
 ghost use Rattle.transfers.specs.Log.{logged};

@@ -6,61 +6,61 @@ use crate::refusal::Refusal;
 use crate::wire::SetupPacket;
 use cutting::packetiser::{Arm, OptionArm};
 
-#[derive(Drop)]
+#[derive(Clone, Copy)]
 pub enum BeginAnswer {
     Begun,
     Refused(Refusal),
 }
 
 // `Waiting(true)`: the poll was ready, and the caller steps again with no interrupt between.
-#[derive(Drop)]
+#[derive(Clone, Copy)]
 pub enum StepAnswer {
     Waiting(bool),
     Done(usize),
     Refused(Refusal),
 }
 
-#[derive(Drop)]
+#[derive(Clone, Copy)]
 pub enum CancelAnswer {
     Cancelled,
     Refused(Refusal),
 }
 
 // How many entries a transfer that failed or was cancelled had armed.
-#[derive(Drop)]
+#[derive(Clone, Copy)]
 pub enum OptionEntries {
     Some(u32),
     None,
 }
 
 // What a call armed, in order: at most one SETUP and two OUT packets.
-#[derive(Drop)]
+#[derive(Clone, Copy)]
 pub struct Armed {
     pub setup: OptionSetup,
     pub first: OptionOut,
     pub second: OptionOut,
 }
 
-#[derive(Drop)]
+#[derive(Clone, Copy)]
 pub enum OptionSetup {
     Some(ArmedSetup),
     None,
 }
 
-#[derive(Drop)]
+#[derive(Clone, Copy)]
 pub enum OptionOut {
     Some(ArmedOut),
     None,
 }
 
-#[derive(Drop)]
+#[derive(Clone, Copy)]
 pub struct ArmedSetup {
     pub address: u8,
     pub setup: SetupPacket,
 }
 
 // The packet's bytes stand in its slot of packet memory.
-#[derive(Drop)]
+#[derive(Clone, Copy)]
 pub struct ArmedOut {
     pub address: u8,
     pub endpoint: u8,

@@ -9,14 +9,14 @@ use crate::sample::slot_available;
 use crate::writes::put_arm;
 use cutting::packetiser::{InPacketiser, OptionArm, OutCounters, OutPacketiser, next_in};
 
-#[derive(Drop)]
+#[derive(Clone, Copy)]
 pub(crate) struct InArmed {
     pub packets: InPacketiser,
     pub inflight: u8,
     pub writes: usize,
 }
 
-#[derive(Drop)]
+#[derive(Clone, Copy)]
 pub(crate) struct OutArmed {
     pub packets: OutCounters,
     pub inflight: u8,
@@ -24,7 +24,7 @@ pub(crate) struct OutArmed {
     pub writes: usize,
 }
 
-#[derive(Drop)]
+#[derive(Clone, Copy)]
 pub(crate) struct OutArmedTwo {
     pub packets: OutCounters,
     pub inflight: u8,

@@ -20,7 +20,7 @@ use crate::writes::put_setup;
 use cutting::transfer_type::TransferType;
 
 // `toggle` is what desk rule 1 hands out, `moved` what rule 2 does.
-#[derive(Drop)]
+#[derive(Clone, Copy)]
 pub(crate) struct Cancelled {
     pub next: Transfer,
     pub answer: CancelAnswer,
@@ -28,7 +28,7 @@ pub(crate) struct Cancelled {
     pub moved: bool,
 }
 
-#[derive(Drop)]
+#[derive(Clone, Copy)]
 pub(crate) struct Beginning {
     pub next: Transfer,
     pub answer: BeginAnswer,

@@ -16,7 +16,7 @@ use crate::sample::Sample;
 use crate::wire::SetupPacket;
 use cutting::transfer_type::TransferType;
 
-#[derive(Drop)]
+#[derive(Clone, Copy)]
 pub struct Begun {
     pub next: Driver,
     pub answer: BeginAnswer,
@@ -25,7 +25,7 @@ pub struct Begun {
 }
 
 // `toggle` is a bulk transfer's: the one to go on with after done, by desk rule 2 after a failure too, else the one that came in. `failed` is there where the step ended the transfer without a count.
-#[derive(Drop)]
+#[derive(Clone, Copy)]
 pub struct Stepped {
     pub next: Driver,
     pub answer: StepAnswer,
@@ -35,7 +35,7 @@ pub struct Stepped {
     pub writes: usize,
 }
 
-#[derive(Drop)]
+#[derive(Clone, Copy)]
 pub struct Dropped {
     pub next: Driver,
     pub answer: CancelAnswer,

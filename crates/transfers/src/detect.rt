@@ -11,21 +11,21 @@ use crate::memory::log_fits;
 use crate::refusal::Refusal;
 use crate::registers::{CONNECT_MASK, INTE};
 
-#[derive(Drop)]
+#[derive(Clone, Copy)]
 pub enum DetectAnswer {
     Changed(DeviceStatus),
     Waiting,
     Refused(Refusal),
 }
 
-#[derive(Drop)]
+#[derive(Clone, Copy)]
 pub struct Detected {
     pub next: Driver,
     pub answer: DetectAnswer,
     pub writes: usize,
 }
 
-#[derive(Drop)]
+#[derive(Clone, Copy)]
 struct StatusDetected {
     pub next: DeviceStatus,
     pub answer: DetectAnswer,

@@ -4,14 +4,14 @@ use crate::wire::Direction;
 use pool::bitset::BitSet;
 
 // What becomes of a bulk transfer's toggle when it fails or is cancelled: it stays as it came in (rule 1), or has flipped once per packet retired (rule 2).
-#[derive(Drop)]
+#[derive(Clone, Copy)]
 pub enum DeskRule {
     One,
     Two,
 }
 
 // `entries` is how many entries of the wire record the transfer under way has armed.
-#[derive(Drop)]
+#[derive(Clone, Copy)]
 pub struct Driver {
     pub transfer: Transfer,
     pub rule: DeskRule,
@@ -21,21 +21,21 @@ pub struct Driver {
 }
 
 // The control pipe: nothing under way, or a transfer.
-#[derive(Drop)]
+#[derive(Clone, Copy)]
 pub enum Transfer {
     Idle,
     Busy(Run),
 }
 
 // A transfer under way: what its begin asked for, and the stage that it is in.
-#[derive(Drop)]
+#[derive(Clone, Copy)]
 pub struct Run {
     pub request: Request,
     pub stage: Stage,
 }
 
 // `length` is that of the caller's buffer.
-#[derive(Drop)]
+#[derive(Clone, Copy)]
 pub struct Request {
     pub address: u8,
     pub size: u8,
@@ -43,20 +43,20 @@ pub struct Request {
     pub length: usize,
 }
 
-#[derive(Drop)]
+#[derive(Clone, Copy)]
 pub enum Kind {
     Control(Control),
     Bulk(Bulk),
 }
 
-#[derive(Drop)]
+#[derive(Clone, Copy)]
 pub struct Control {
     pub phase: DataPhase,
     pub wLength: u16,
 }
 
 // `toggle` is the one that came in with the begin.
-#[derive(Drop)]
+#[derive(Clone, Copy)]
 pub struct Bulk {
     pub direction: Direction,
     pub endpoint: u8,
@@ -64,7 +64,7 @@ pub struct Bulk {
 }
 
 // SETUP, or packets moving IN or OUT, as the data or the status stage.
-#[derive(Drop)]
+#[derive(Clone, Copy)]
 pub enum Stage {
     Setup,
     In(InStage),
@@ -72,7 +72,7 @@ pub enum Stage {
 }
 
 // `slot`, `toarm` and `zlp` are the packetiser's, `retire`, `remain` and `offset` the depacketiser's.
-#[derive(Drop)]
+#[derive(Clone, Copy)]
 pub struct InStage {
     pub status: bool,
     pub slot: bool,
@@ -86,7 +86,7 @@ pub struct InStage {
 
 // `slot`, `remain`, `offset` and `zlp` are the packetiser's, `retire` the depacketiser's.
 // `received` is the data stage's count, kept through the status stage.
-#[derive(Drop)]
+#[derive(Clone, Copy)]
 pub struct OutStage {
     pub status: bool,
     pub slot: bool,
@@ -99,13 +99,13 @@ pub struct OutStage {
 }
 
 // The interrupt pipes: which are open, by their indices, and of each its packet size and toggle.
-#[derive(Drop)]
+#[derive(Clone, Copy)]
 pub struct Pipes {
     pub opened: BitSet,
     pub each: [Pipe; 15],
 }
 
-#[derive(Drop)]
+#[derive(Clone, Copy)]
 pub struct Pipe {
     pub size: u8,
     pub toggle: bool,

@@ -13,19 +13,19 @@ use crate::refusal::Refusal;
 use crate::registers::*;
 
 // Bit i of `pipes` stands for pipe i; `detect` for device detection.
-#[derive(Drop)]
+#[derive(Clone, Copy)]
 pub struct Wake {
     pub pipes: u16,
     pub detect: bool,
 }
 
-#[derive(Drop)]
+#[derive(Clone, Copy)]
 pub enum IrqAnswer {
     Wake(Wake),
     Refused(Refusal),
 }
 
-#[derive(Drop)]
+#[derive(Clone, Copy)]
 pub struct Woken {
     pub answer: IrqAnswer,
     pub writes: usize,

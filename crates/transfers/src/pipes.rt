@@ -20,38 +20,38 @@ use pool::bitset::BitSet;
 use pool::pipe::{OptionPipe, PipeNumber};
 
 // EP_BUFFER_CONTROL and HOST_ADDR_ENDP of a pipe, as read.
-#[derive(Drop)]
+#[derive(Clone, Copy)]
 pub struct PipeSample {
     pub buffer: u32,
     pub address: u32,
 }
 
-#[derive(Drop)]
+#[derive(Clone, Copy)]
 pub enum OpenAnswer {
     Pipe(PipeNumber),
     Refused(Refusal),
 }
 
-#[derive(Drop)]
+#[derive(Clone, Copy)]
 pub struct Opened {
     pub next: Driver,
     pub answer: OpenAnswer,
     pub writes: usize,
 }
 
-#[derive(Drop)]
+#[derive(Clone, Copy)]
 pub enum CloseAnswer {
     Closed,
     Refused(Refusal),
 }
 
-#[derive(Drop)]
+#[derive(Clone, Copy)]
 pub struct Closed {
     pub next: Driver,
     pub answer: CloseAnswer,
 }
 
-#[derive(Drop)]
+#[derive(Clone, Copy)]
 pub enum PollAnswer {
     Packet,
     Waiting,
@@ -59,7 +59,7 @@ pub enum PollAnswer {
 }
 
 // `packet` is all zeros where the answer is no packet.
-#[derive(Drop)]
+#[derive(Clone, Copy)]
 pub struct Polled {
     pub next: Driver,
     pub answer: PollAnswer,
@@ -67,20 +67,20 @@ pub struct Polled {
     pub writes: usize,
 }
 
-#[derive(Drop)]
+#[derive(Clone, Copy)]
 struct PipesOpened {
     pub next: Pipes,
     pub answer: OpenAnswer,
     pub writes: usize,
 }
 
-#[derive(Drop)]
+#[derive(Clone, Copy)]
 struct PipesClosed {
     pub next: Pipes,
     pub answer: CloseAnswer,
 }
 
-#[derive(Drop)]
+#[derive(Clone, Copy)]
 struct PipesPolled {
     pub next: Pipes,
     pub answer: PollAnswer,

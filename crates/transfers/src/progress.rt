@@ -18,7 +18,7 @@ use cutting::packetiser::{InPacketiser, OptionArm, OutCounters};
 use cutting::transfer_type::TransferType;
 
 // `toggle` is what desk rule 1 hands out, `moved` what rule 2 does.
-#[derive(Drop)]
+#[derive(Clone, Copy)]
 pub struct Progress {
     pub next: Transfer,
     pub answer: StepAnswer,
@@ -28,13 +28,13 @@ pub struct Progress {
     pub writes: usize,
 }
 
-#[derive(Drop)]
+#[derive(Clone, Copy)]
 pub(crate) struct InStarted {
     pub stage: InStage,
     pub writes: usize,
 }
 
-#[derive(Drop)]
+#[derive(Clone, Copy)]
 pub(crate) struct OutStarted {
     pub stage: OutStage,
     pub first: OptionArm,

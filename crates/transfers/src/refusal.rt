@@ -4,7 +4,7 @@ ghost use Rattle.transfers.specs.Refusal.{error_number, number_of};
 
 use crate::host_controller::UsbError;
 
-#[derive(Drop)]
+#[derive(Clone, Copy)]
 pub enum Refusal {
     Usb(UsbError),
     Address,
@@ -15,7 +15,7 @@ pub enum Refusal {
     PipeNotOpen,
 }
 
-#[derive(Drop)]
+#[derive(Clone, Copy)]
 pub enum OptionRefusal {
     Some(Refusal),
     None,

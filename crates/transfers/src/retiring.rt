@@ -8,14 +8,14 @@ use crate::memory::take_slot;
 use crate::sample::{slot_full, slot_length};
 use cutting::depacketiser::InDepacketiser;
 
-#[derive(Drop)]
+#[derive(Clone, Copy)]
 pub(crate) struct InRetired {
     pub long: bool,
     pub packets: InDepacketiser,
     pub inflight: u8,
 }
 
-#[derive(Drop)]
+#[derive(Clone, Copy)]
 pub(crate) struct OutRetired {
     pub parity: bool,
     pub inflight: u8,

@@ -5,7 +5,7 @@ ghost use Rattle.transfers.specs.Sample.{errors, first_place, first_of, classify
 use crate::host_controller::UsbError;
 use crate::registers::{READY_MASK, bit};
 
-#[derive(Drop)]
+#[derive(Clone, Copy)]
 pub struct Sample {
     pub status: u32,
     pub intr: u32,
@@ -13,14 +13,14 @@ pub struct Sample {
 }
 
 // What a poll of `Rp2040ControlEndpoint` answers.
-#[derive(Drop)]
+#[derive(Clone, Copy)]
 pub enum Poll {
     Pending,
     Ready(Found),
 }
 
 // What the status of a ready poll says.
-#[derive(Drop)]
+#[derive(Clone, Copy)]
 pub enum Found {
     Complete,
     Failed(UsbError),

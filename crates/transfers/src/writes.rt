@@ -12,7 +12,7 @@ use crate::wire::{Direction, SetupPacket};
 use cutting::packetiser::Arm;
 
 // Whom a stage talks to: device address, endpoint, packet size and first PID.
-#[derive(Drop)]
+#[derive(Clone, Copy)]
 pub struct Target {
     pub address: u8,
     pub endpoint: u8,

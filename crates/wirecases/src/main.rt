@@ -1,4 +1,6 @@
 // Lists many records.
+#![tactic(auto)]
+
 use cases::{Kind, print_cases};
 
 fn main() {

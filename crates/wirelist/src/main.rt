@@ -1,4 +1,6 @@
 // Lists the record on standard input.
+#![tactic(auto)]
+
 use input::{first, read_input};
 use listing::print_record;
 

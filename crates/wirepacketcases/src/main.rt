@@ -1,4 +1,6 @@
 // Prints the packets of many records.
+#![tactic(auto)]
+
 use cases::{Kind, print_cases};
 
 fn main() {

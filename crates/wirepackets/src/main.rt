@@ -1,4 +1,6 @@
 // Prints the packets of the record on standard input, a line of bytes each.
+#![tactic(auto)]
+
 use capture::{Form, print_capture};
 use input::{first, read_input};
 

@@ -1,4 +1,6 @@
 // Writes the packets of the record on standard input as a pcap file.
+#![tactic(auto)]
+
 use capture::{Form, print_capture};
 use input::{first, read_input};
 

@@ -5,15 +5,15 @@ use Prim.Native.Nat.{ℕ, ◌+◌, ◌-◌, ◌≤◌}
 use lib.Dec.{leb}
 use native.Mathlib.Omega.{arith}
 use borrow.Author.Tests.{le-leb, lt-leb, leb-true, leb-false}
-use Rattle.pool.proofs.Cases.{byCases}
+use Rattle.pool.proofs.Cases.{by_cases}
 use Rattle.packet.proofs.put.has_room.Statement.{statement}
 use Rattle.packet.proofs.put.has_room.Tie as tie
 
 -- Two tests that pass together.
 same_test : (a b x y : ℕ) → (a ≤ b → x ≤ y) → (x ≤ y → a ≤ b) → leb a b ≡ leb x y
 same_test a b x y f g =
-    byCases (leb a b) (λ (e : leb a b ≡ true). e ∙ sym (le-leb x y (f (leb-true a b e))))
-    (λ (e : leb a b ≡ false). e ∙ sym (byCases (leb x y) (λ (d : leb x y ≡ true). absurd (omega (arith, g (leb-true x y d), leb-false a b e))) (λ (d : leb x y ≡ false). d)))
+    by_cases (leb a b) (λ (e : leb a b ≡ true). e ∙ sym (le-leb x y (f (leb-true a b e))))
+    (λ (e : leb a b ≡ false). e ∙ sym (by_cases (leb x y) (λ (d : leb x y ≡ true). absurd (omega (arith, g (leb-true x y d), leb-false a b e))) (λ (d : leb x y ≡ false). d)))
 
 returns : tie.Need-returns
 returns c =
