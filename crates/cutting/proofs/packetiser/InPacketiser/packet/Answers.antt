@@ -5,7 +5,7 @@ use Rattle.cutting.proofs.Next.{next_small}
 use Rattle.cutting.proofs.packetiser.InPacketiser.packet.Goals as goal
 
 pub overflow_sub-result : goal.overflow_sub-result
-overflow_sub-result c = let x = c.args.self in let g = c.next-1.given in (next_small x.remain x.size x.zlp g.0.0 g.0.1.0 (sym c.next_length-next.ensures ∙ g.1)).rest
+overflow_sub-result c = let x = c.args.self in (next_small x.remain x.size x.zlp c.in-Packet.n c.in-Packet.last (sym c.next_length-next.ensures ∙ c.in-Packet.is)).rest
 
 pub returns-in-End : goal.returns-in-End
 unfolding in_next

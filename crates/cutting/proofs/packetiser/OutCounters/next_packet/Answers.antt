@@ -11,10 +11,10 @@ unfolding out_next
 returns-then-self c = simp (lt-ltb _ _ c.if-self.true)
 
 pub overflow_sub-result : goal.overflow_sub-result
-overflow_sub-result c = let x = c.args.self in let g = c.next-1.given in (next_small x.remain x.size x.zlp g.0.0 g.0.1.0 (sym c.next_length-next.ensures ∙ g.1)).rest
+overflow_sub-result c = let x = c.args.self in (next_small x.remain x.size x.zlp c.in-Packet.n c.in-Packet.last (sym c.next_length-next.ensures ∙ c.in-Packet.is)).rest
 
 pub overflow_add-result : goal.overflow_add-result
-overflow_add-result c = let x = c.args.self in let g = c.next-1.given in omega (arith, (next_small x.remain x.size x.zlp g.0.0 g.0.1.0 (sym c.next_length-next.ensures ∙ g.1)).rest, c.if-self.false)
+overflow_add-result c = let x = c.args.self in omega (arith, (next_small x.remain x.size x.zlp c.in-Packet.n c.in-Packet.last (sym c.next_length-next.ensures ∙ c.in-Packet.is)).rest, c.if-self.false)
 
 pub returns-in-End : goal.returns-in-End
 unfolding out_next
