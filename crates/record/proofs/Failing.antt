@@ -2,7 +2,7 @@
 -- transfer begun has one fate. Assumes nothing.
 use mathlib.Core.Path.{◌≡◌, refl, sym, ap, ap₂, ◌∙◌, subst}
 use mathlib.Core.Bool.{Bool, true, false, cond, true≢false}
-use mathlib.Core.List.{List, [], ◌∷◌, ◌++◌, map, append-nil, append_assoc, map_append, tail-eq_of_cons-eq}
+use mathlib.Core.List.{List, [], ◌∷◌, ◌++◌, map, append-nil, append_assoc, map-append, tail-eq_of_cons-eq}
 use Prim.Native.Nat.{ℕ, ◌+◌}
 use native.Mathlib.Omega.{arith}
 use lib.ListN.{length, length-append}
@@ -82,7 +82,7 @@ part_before : (q : Part) (s : Segment) (ss : List Segment) (ps : List Part)
     → elements (record { whole = q ∷ s.whole; first = s.first } ∷ ss) ps ≡ map entry (part_entries q) ++ elements (s ∷ ss) ps
 part_before q s ss ps =
     ap (λ (v : List Entry). map entry v ++ (failed_entry (length s.first) ∷ elements ss ps)) (append_assoc (part_entries q) (parts_entries s.whole) s.first)
-    ∙ ap (λ (v : List Element). v ++ (failed_entry (length s.first) ∷ elements ss ps)) (map_append entry (part_entries q) (parts_entries s.whole ++ s.first))
+    ∙ ap (λ (v : List Element). v ++ (failed_entry (length s.first) ∷ elements ss ps)) (map-append entry (part_entries q) (parts_entries s.whole ++ s.first))
     ∙ append_assoc (map entry (part_entries q)) (map entry (parts_entries s.whole ++ s.first)) (failed_entry (length s.first) ∷ elements ss ps)
 
 read_whole : (g : Begun) (fs : List Fate) (r : List Element) → PartOf g → listed (g ∷ ended_of fs) ≡ g ∷ listed (ended_of fs) → Reads fs r → Reads (done g ∷ fs) (map entry (armed_by g) ++ r)
@@ -102,7 +102,7 @@ read_whole g fs r h e k = at k.reading.segments k.reading.segments_fit k.reading
         last = q ∷ ps;
         segments_fit = tt;
         last_fit = (h.fits, k.reading.last_fit);
-        is = map_append entry (part_entries q) (parts_entries ps) ∙ ap₂ {C = List Element} ◌++◌ (ap (map entry) h.entries_are) w;
+        is = map-append entry (part_entries q) (parts_entries ps) ∙ ap₂ {C = List Element} ◌++◌ (ap (map entry) h.entries_are) w;
       };
       transfers = rw e (ap₂ {C = List Item} ◌∷◌ h.item_is t);
       packets = rw e (ap₂ {C = List (List Entry)} ◌∷◌ h.entries_are p);
@@ -201,7 +201,7 @@ known (live x buf) n w f (Busy r) rest so k i m = (i.checked, by r.stage i.stage
 
 module _ (so rest rest' now : List Entry) (k : ℕ) (fs : List Fate) (M : List Element) where
   elements_join : map entry (so ++ now) ++ M ≡ map entry so ++ (map entry now ++ M)
-  elements_join = ap (λ (v : List Element). v ++ M) (map_append entry so now) ∙ append_assoc (map entry so) (map entry now) M
+  elements_join = ap (λ (v : List Element). v ++ M) (map-append entry so now) ∙ append_assoc (map entry so) (map entry now) M
 
   now_nil : rest ≡ [] → rest ++ [] ≡ now ++ rest' → now ≡ []
   now_nil z e = nil_left now rest' (sym e ∙ ap (λ (v : List Entry). v ++ []) z)

@@ -3,7 +3,7 @@
 use mathlib.Core.Path.{◌≡◌, refl, sym, ap, ap₂, ◌∙◌, subst}
 use mathlib.Core.Logic.{◌⊎◌, inl, inr}
 use mathlib.Core.Bool.{Bool, true, false, cond, ◌&&◌, ◌||◌}
-use mathlib.Core.List.{List, [], ◌∷◌, ◌++◌, map, append-nil, append_assoc, map_append, head-eq_of_cons-eq, tail-eq_of_cons-eq}
+use mathlib.Core.List.{List, [], ◌∷◌, ◌++◌, map, append-nil, append_assoc, map-append, head-eq_of_cons-eq, tail-eq_of_cons-eq}
 use Prim.Native.Nat.{ℕ, zero, suc, ◌+◌, ◌-◌, ◌≤◌}
 use native.Mathlib.Omega.{arith}
 use lib.ListN.{length, length-append}
@@ -368,7 +368,7 @@ come_entry ms p e s' c h q = record {
   fit = c.fit;
   es = c.es ++ (e ∷ []);
   is =
-      ap (up_to c.segments) (map_append entry c.es (e ∷ []))
+      ap (up_to c.segments) (map-append entry c.es (e ∷ []))
       ∙ up_append c.segments (map entry c.es) (entry e ∷ [])
       ∙ ap (λ (r : List Element). r ++ (entry e ∷ [])) c.is;
   last = last_on c.es p.scan s' p.run e c.last h q;
@@ -674,7 +674,7 @@ prefix_viable pre p h f =
         last_fit = w.fit;
         is =
             ap (λ (y : List Entry). up_to c.segments (map entry y)) (w.is ∙ sym (append_assoc l.pre l.ft v.0) ∙ ap (λ (y : List Entry). y ++ v.0) l.is)
-            ∙ ap (up_to c.segments) (map_append entry c.es v.0)
+            ∙ ap (up_to c.segments) (map-append entry c.es v.0)
             ∙ up_append c.segments (map entry c.es) (map entry v.0)
             ∙ ap (λ (y : List Element). y ++ map entry v.0) c.is;
       },

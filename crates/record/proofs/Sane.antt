@@ -1,6 +1,6 @@
 -- The checks of a step pass along a run, so that it acts. Assumes nothing.
 use mathlib.Core.Path.{◌≡◌, refl, ap, ◌∙◌}
-use mathlib.Core.Bool.{Bool, true, false, and_false}
+use mathlib.Core.Bool.{Bool, true, false, and-false}
 use mathlib.Core.List.{List}
 use Prim.Native.Nat.{ℕ, zero, suc, ◌+◌, ◌-◌, ◌≤◌}
 use native.Mathlib.Omega.{arith}
@@ -100,4 +100,4 @@ retire_two s k =
 
 pub retire_in : (c : InDepacketiser) (k : ℕ) (buf m : List ℕ) → in_retire_one 0 c k buf m ≡ record { long = false; packets = c; inflight = k; buffer = buf }
 unfolding in_retire_one
-retire_in c k buf m = rw (none_full c.parity, and_false (ltb 0 k))
+retire_in c k buf m = rw (none_full c.parity, and-false (ltb 0 k))

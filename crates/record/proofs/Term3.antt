@@ -1,7 +1,7 @@
 -- Term 3. Assumes nothing.
 use mathlib.Core.Path.{◌≡◌, refl, sym, ap, ◌∙◌, subst}
 use mathlib.Core.Bool.{false, true≢false}
-use mathlib.Core.List.{List, [], ◌∷◌, ◌++◌, map, map_append}
+use mathlib.Core.List.{List, [], ◌∷◌, ◌++◌, map, map-append}
 use Prim.Native.Nat.{ℕ}
 use native.Mathlib.Omega.{arith}
 use Rattle.transfers.specs.declared.driver.DeskRule.{DeskRule}
@@ -82,7 +82,7 @@ no_failure (c ∷ cs) t d h =
     subst (λ (v : Told). map entry now ++ (failure g v.armings ++ record_from v (shown_from o.next cs)) ≡ map entry (entries_from t.file d (c ∷ cs))) (hears_is t (shown c o))
     (ap (λ (v : List Element). map entry now ++ (v ++ record_from u (shown_from o.next cs))) (not_failed (note c o.answer) (under_way t.live) u.armings h.0)
     ∙ ap (λ (v : List Element). map entry now ++ v) (no_failure cs u o.next h.3)
-    ∙ sym (map_append entry now (entries_from u.file o.next cs)))
+    ∙ sym (map-append entry now (entries_from u.file o.next cs)))
 
 premises : (cs : List Call) (t : Told) (d : Driver) → UnbrokenFrom t.live t.stages t.watch t.file d cs → PremisesFrom t (shown_from d cs)
 unfolding UnbrokenFrom PremisesFrom shown_from

@@ -1,6 +1,6 @@
 -- What open, close and poll make of the pipes. Assumes nothing.
 use mathlib.Core.Path.{◌≡◌, refl, ap, sym, ◌∙◌}
-use mathlib.Core.Bool.{Bool, true, false, cond, not, ◌&&◌, or_false}
+use mathlib.Core.Bool.{Bool, true, false, cond, not, ◌&&◌, or-false}
 use mathlib.Core.List.{List}
 use Prim.Native.Nat.{ℕ, ◌-◌, ◌≤◌}
 use native.Mathlib.Omega.{arith}
@@ -81,7 +81,7 @@ opens_at ps size at n w c out =
           record {
             opened = open_is ps.opened k (index_at k) (counted_at k l h)
                 ∙ sym (open_is left k (index_at k) (counted_at k l h) ∙ has_insert ps.opened.0 at.0 i
-                ∙ rw (lt-ltb i 32 (omega arith), ne_eqb i at.0 (λ e. ne (omega arith))) (or_false (has ps.opened.0 i)));
+                ∙ rw (lt-ltb i 32 (omega arith), ne_eqb i at.0 (λ e. ne (omega arith))) (or-false (has ps.opened.0 i)));
             size = ap (λ x. x.size) o;
             toggle = ap (λ x. x.toggle) o;
           };

@@ -1,6 +1,6 @@
 -- Whom the interrupt routine wakes. Assumes nothing.
 use mathlib.Core.Path.{◌≡◌, refl, ap, sym, subst, ◌∙◌}
-use mathlib.Core.Bool.{Bool, true, false, or_false}
+use mathlib.Core.Bool.{Bool, true, false, or-false}
 use mathlib.Core.List.{List, []}
 use Prim.Native.Nat.{ℕ, ◌+◌, ◌%◌, ◌≤◌, ◌<◌}
 use native.Mathlib.Nat.{div-one, zero-add}
@@ -46,7 +46,7 @@ wake_is ints status log w = go (log_fits log)
 -- Pipes 1 to 15: the control pipe's own rule is out.
 interrupt_pipe : (ints status n : ℕ) → 1 ≤ n → n ≤ 15 → is_in (woken_pipes ints status) n ≡ shows_buffer ints status n
 unfolding has
-interrupt_pipe ints status n from to = woken ints status n (omega arith) ∙ rw (ne_eqb n 0 (λ (z : n ≡ 0). omega arith)) (or_false (has_buffer ints status n))
+interrupt_pipe ints status n from to = woken ints status n (omega arith) ∙ rw (ne_eqb n 0 (λ (z : n ≡ 0). omega arith)) (or-false (has_buffer ints status n))
 
 woken_by : (ints status : ℕ) → WokenBy ints status (record { pipes = woken_pipes ints status; detect = bit 0 ints })
 unfolding has

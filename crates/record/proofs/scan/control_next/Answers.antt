@@ -1,0 +1,21 @@
+-- `control_next` takes a further packet of a control's group.
+-- Assumes nothing.
+use Prim.Native.Nat.{◌+◌}
+use native.Mathlib.Omega.{arith}
+use borrow.Author.Tests.{ltb-true}
+use Rattle.record.proofs.scan.control_next.Goals as goal
+
+pub overflow_cast-result : goal.overflow_cast-result
+overflow_cast-result c = omega (arith, c.ranges, ltb-true (c.args.t + c.args.x.length) c.args.w (c.both-else-x.ensures.1 (c.both-else-x-2.ensures.1 (c.both-else-x-3.ensures.1 (c.both-else-x-4.ensures.1 c.if-both-2.true)))))
+
+pub returns-then-both : goal.returns-then-both
+returns-then-both c = rw (c.if-x.true, ← c.same.ensures, ← c.both.ensures.0, ← c.both-then-x.ensures.0, ← c.both-then-x-2.ensures.0, ← c.both-then-x-3.ensures.0, ← c.both-then-x-4.ensures.0, c.if-both.true)
+
+pub returns-else-both : goal.returns-else-both
+returns-else-both c = rw (c.if-x.true, ← c.same.ensures, ← c.both.ensures.0, ← c.both-then-x.ensures.0, ← c.both-then-x-2.ensures.0, ← c.both-then-x-3.ensures.0, ← c.both-then-x-4.ensures.0, c.if-both.false)
+
+pub returns-then-both-2 : goal.returns-then-both-2
+returns-then-both-2 c = rw (c.if-x.false, ← c.same-else-x.ensures, ← c.both-else-x.ensures.0, ← c.both-else-x-2.ensures.0, ← c.both-else-x-3.ensures.0, ← c.both-else-x-4.ensures.0, c.if-both-2.true)
+
+pub returns-else-both-2 : goal.returns-else-both-2
+returns-else-both-2 c = rw (c.if-x.false, ← c.same-else-x.ensures, ← c.both-else-x.ensures.0, ← c.both-else-x-2.ensures.0, ← c.both-else-x-3.ensures.0, ← c.both-else-x-4.ensures.0, c.if-both-2.false)
