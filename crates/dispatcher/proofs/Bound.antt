@@ -9,7 +9,7 @@ use lib.Seq.{get_or-set_other}
 use lib.Dec.{leb, eqb}
 use borrow.Author.Tests.{leb-true, leb-false, lt-leb, eqb-false, ne_eqb}
 use Rattle.dispatcher.specs.declared.Dispatcher.{Dispatcher}
-use Rattle.dispatcher.specs.Dispatcher.{nobody, requested_at, used_at, quota_at, fits, next_turn, passes, settled, whose, in_frame, with_pending, observes, charged, starts}
+use Rattle.dispatcher.specs.Dispatcher.{nobody, requested_at, fits, next_turn, passes, settled, whose, in_frame, with_pending, observes, charged, starts}
 use Rattle.dispatcher.specs.Events.{Event, submitted, observed, started, ended, nothing, moved, idle_after, Allowed, AllAllowed, runner, ends_other, others_end}
 use Rattle.dispatcher.proofs.Rounds.{gap}
 use Rattle.dispatcher.proofs.Rooms.{fits_told, fits_made, fits_frame}

@@ -15,7 +15,7 @@ returns-then-fits c =
     let l = c.loop-k in
     let self = c.args.self in
     let b : 0 < 8 - l.k = omega arith in
-    e ∙ sym (first_here (8 - l.k) (fits self) l.i b (ap (fits self) (sym e) ∙ sym c.fits2.ensures ∙ c.if-fits.true)) ∙ l.invariant.0
+    e ∙ sym (first_here (8 - l.k) (fits self) l.i b (ap (fits self) (sym e) ∙ sym c.fits.ensures ∙ c.if-fits.true)) ∙ l.invariant.0
 
 pub overflow_step-k : goal.overflow_step-k
 overflow_step-k c = omega arith
@@ -30,7 +30,7 @@ loop-k-preserved c =
     let self = c.args.self in
     let b : 0 < 8 - l.k = omega arith in
     let z : 8 - (l.k + 1) ≡ 8 - l.k - 1 = omega arith in
-    (ap (λ (m : ℕ). first_from m (fits self) c.after-i.result) z ∙ ap (first_from (8 - l.k - 1) (fits self)) e ∙ sym (first_on (8 - l.k) (fits self) l.i b (ap (fits self) (sym e) ∙ sym c.fits2.ensures ∙ c.if-fits.false)) ∙ l.invariant.0, omega arith)
+    (ap (λ (m : ℕ). first_from m (fits self) c.after-i.result) z ∙ ap (first_from (8 - l.k - 1) (fits self)) e ∙ sym (first_on (8 - l.k) (fits self) l.i b (ap (fits self) (sym e) ∙ sym c.fits.ensures ∙ c.if-fits.false)) ∙ l.invariant.0, omega arith)
 
 pub returns : goal.returns
 returns c =

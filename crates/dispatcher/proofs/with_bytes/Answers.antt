@@ -1,8 +1,0 @@
--- `with_bytes`: nobody above 7 asks for anything. Assumes nothing.
-use mathlib.Core.Path.{sym}
-use native.Mathlib.Omega.{arith}
-use lib.Seq.{set_out}
-use Rattle.dispatcher.proofs.with_bytes.Goals as goal
-
-pub returns-then-c-gt7 : goal.returns-then-c-gt7
-returns-then-c-gt7 c = sym (set_out c.args.t1 c.args.c c.args.n (omega (arith, c.well-formed)))
