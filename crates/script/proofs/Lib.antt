@@ -2,3 +2,5 @@ pub mod Walks
 pub mod Spelling
 pub mod Storing
 pub mod Placing
+pub mod Counting
+pub mod Powers

@@ -1,0 +1,28 @@
+-- `half_at` is `half_at`: the field's number, which fits half a word.
+-- Assumes nothing.
+use mathlib.Core.Path.{sym, ◌∙◌}
+use Rattle.script.proofs.Spelling.{number_most}
+use Rattle.script.proofs.Storing.{numbered}
+use Rattle.script.specs.Typed.{half_at}
+use native.Mathlib.Omega.{arith}
+use Rattle.script.proofs.typed.half_at.Goals as goal
+
+pub overflow_cast-result : goal.overflow_cast-result
+overflow_cast-result c =
+    let number = c.number-f in
+    let field = c.field in
+    omega (arith, number_most field.result.now 65535 c.in-Some.n (sym number.ensures ∙ c.in-Some.is))
+
+pub returns-in-Some : goal.returns-in-Some
+unfolding half_at
+returns-in-Some c =
+    let number = c.number-f in
+    let field = c.field in
+    simp (numbered 65535 number.ensures field.ensures c.in-Some.is)
+
+pub returns-in-None : goal.returns-in-None
+unfolding half_at
+returns-in-None c =
+    let number = c.number-f in
+    let field = c.field in
+    simp (numbered 65535 number.ensures field.ensures c.in-None.is)
