@@ -1,16 +1,15 @@
 -- Who starts next, as the code finds it out. Assumes nothing.
 use mathlib.Core.Path.{◌≡◌, refl, sym, ap, ◌∙◌}
-use mathlib.Core.Logic.{inl, inr}
 use mathlib.Core.Bool.{Bool, true, false, cond, ◌&&◌}
 use mathlib.Core.List.{[], ◌∷◌}
 use Prim.Native.Nat.{ℕ}
 use native.Mathlib.Omega.{arith}
 use lib.Dec.{leb}
-use denote.Enum.Declared.{tag_of}
-use types.Run.{OneOf}
 use Rattle.transfers.specs.declared.refusal.OptionRefusal.{OptionRefusal}
 use Rattle.transfers.specs.declared.refusal.OptionRefusal.TheVariants.{None}
 use Rattle.dispatcher.specs.Dispatcher.{pending_at, has_room}
+use Rattle.host.specs.declared.fields.ControlFields.{ControlFields}
+use Rattle.host.specs.declared.fields.BulkFields.{BulkFields}
 use Rattle.host.specs.declared.fields.Fields.{Fields}
 use Rattle.host.specs.declared.fields.Fields.TheVariants.{Control, BulkIn, BulkOut}
 use Rattle.host.specs.declared.controller.HostController.{HostController}
@@ -72,38 +71,17 @@ next_ready d c x n b r e p q f h g large k v =
 
 -- ---- a start of another kind: x is one of the two other variants
 
-pub not_control : (x : Fields) → OneOf (1 ∷ 2 ∷ []) (tag_of F.the_type x) → of_kind control x ≡ false
-not_control (Control y) (inl e) = absurd (never e)
-  where
-    never : ◌≡◌ {A = ℕ} 0 1 → ⊥
-    never q = omega arith
-not_control (Control y) (inr e) = absurd (never e)
-  where
-    never : ◌≡◌ {A = ℕ} 0 2 → ⊥
-    never q = omega arith
+pub not_control : (x : Fields) → ((y : ControlFields) → x ≡ Control y → ⊥) → of_kind control x ≡ false
+not_control (Control y) h = absurd (h y refl)
 not_control (BulkIn y) h = refl
 not_control (BulkOut y) h = refl
 
-pub not_bulk_in : (x : Fields) → OneOf (0 ∷ 2 ∷ []) (tag_of F.the_type x) → of_kind bulk_in x ≡ false
+pub not_bulk_in : (x : Fields) → ((y : BulkFields) → x ≡ BulkIn y → ⊥) → of_kind bulk_in x ≡ false
 not_bulk_in (Control y) h = refl
-not_bulk_in (BulkIn y) (inl e) = absurd (never e)
-  where
-    never : ◌≡◌ {A = ℕ} 1 0 → ⊥
-    never q = omega arith
-not_bulk_in (BulkIn y) (inr e) = absurd (never e)
-  where
-    never : ◌≡◌ {A = ℕ} 1 2 → ⊥
-    never q = omega arith
+not_bulk_in (BulkIn y) h = absurd (h y refl)
 not_bulk_in (BulkOut y) h = refl
 
-pub not_bulk_out : (x : Fields) → OneOf (0 ∷ 1 ∷ []) (tag_of F.the_type x) → of_kind bulk_out x ≡ false
+pub not_bulk_out : (x : Fields) → ((y : BulkFields) → x ≡ BulkOut y → ⊥) → of_kind bulk_out x ≡ false
 not_bulk_out (Control y) h = refl
 not_bulk_out (BulkIn y) h = refl
-not_bulk_out (BulkOut y) (inl e) = absurd (never e)
-  where
-    never : ◌≡◌ {A = ℕ} 2 0 → ⊥
-    never q = omega arith
-not_bulk_out (BulkOut y) (inr e) = absurd (never e)
-  where
-    never : ◌≡◌ {A = ℕ} 2 1 → ⊥
-    never q = omega arith
+not_bulk_out (BulkOut y) h = absurd (h y refl)

@@ -1,0 +1,67 @@
+-- `HostController::start_control` is `start_of` of a control: four refusals, and the begin. Assumes nothing.
+use mathlib.Core.Path.{refl, sym, ◌∙◌}
+use borrow.Author.Tests.{eq-eqb, ne_eqb, not-true, not-false}
+use Rattle.host.specs.declared.fields.Fields.TheVariants.{Control}
+use Rattle.host.specs.Start.{control}
+use Rattle.host.proofs.Next.{not_control}
+use Rattle.host.proofs.Starting.{start_unlent, start_unready, start_other, start_long, start_did}
+use Rattle.host.proofs.controller.HostController.start_control.Goals as goal
+
+pub returns-then-not-lent_fits : goal.returns-then-not-lent_fits
+returns-then-not-lent_fits c =
+    let args = c.args in
+    let lent-fits = c.lent_fits in
+    let if1 = c.if-not-lent_fits.true in
+    let refuse-start = c.refuse_start in
+    start_unlent args.self control args.frame args.buf.now args.pm.now args.log.now _ (sym lent-fits.ensures ∙ if1) refuse-start.ensures
+
+pub returns-in_default : goal.returns-in_default
+returns-in_default c =
+    let args = c.args in
+    let lent-fits = c.lent_fits in
+    let if1 = c.if-not-lent_fits.false in
+    let observed = c.observed-now in
+    let next_start = c.next_start-next in
+    let refuse-start2 = c.refuse_start-in_default in
+    let lent = sym lent-fits.ensures ∙ if1 in
+    start_unready args.self control args.frame args.buf.now args.pm.now args.log.now observed.result next_start.result _ lent observed.ensures next_start.ensures
+    c.in_default.is refuse-start2.ensures
+
+pub returns-in_default-x : goal.returns-in_default-x
+returns-in_default-x c =
+    let args = c.args in
+    let lent-fits = c.lent_fits in
+    let if1 = c.if-not-lent_fits.false in
+    let observed = c.observed-now in
+    let next_start = c.next_start-next in
+    let refuse-start3 = c.refuse_start-in_default-x in
+    let lent = sym lent-fits.ensures ∙ if1 in
+    start_other args.self control args.frame args.buf.now args.pm.now args.log.now observed.result next_start.result c.in-Ready.n c.in-Ready.n.fields _ lent observed.ensures next_start.ensures
+    c.in-Ready.is refl (not_control c.in-Ready.n.fields c.in_default-x.not-Control) refuse-start3.ensures
+
+pub returns-then-buf-y : goal.returns-then-buf-y
+returns-then-buf-y c =
+    let args = c.args in
+    let lent-fits = c.lent_fits in
+    let if1 = c.if-not-lent_fits.false in
+    let observed = c.observed-now in
+    let next_start = c.next_start-next in
+    let if2 = c.if-buf-y.true in
+    let refuse-start4 = c.refuse_start-then-buf-y in
+    let lent = sym lent-fits.ensures ∙ if1 in
+    start_long args.self control args.frame args.buf.now args.pm.now args.log.now observed.result next_start.result c.in-Ready.n (Control c.in-Control.y) _ lent observed.ensures
+    next_start.ensures c.in-Ready.is c.in-Control.is refl (ne_eqb _ _ if2) refuse-start4.ensures
+
+pub returns : goal.returns
+returns c =
+    let args = c.args in
+    let lent-fits = c.lent_fits in
+    let if1 = c.if-not-lent_fits.false in
+    let observed = c.observed-now in
+    let next_start = c.next_start-next in
+    let if2 = c.if-buf-y.false in
+    let begin-control = c.begin_control-b in
+    let started = c.started in
+    let lent = sym lent-fits.ensures ∙ if1 in
+    start_did args.self control args.frame args.buf.now args.pm.now args.log.now observed.result next_start.result c.in-Ready.n (Control c.in-Control.y) begin-control.result _ _ _ lent
+    observed.ensures next_start.ensures c.in-Ready.is c.in-Control.is refl (eq-eqb _ _ if2) begin-control.ensures.0 started.ensures
