@@ -62,6 +62,7 @@ pub(crate) fn pid_byte(pid: u8) -> u8
 }
 
 // What a PID byte begins.
+#[tactic(auto, unfolding(crate::specs::Packet::kind_of))]
 pub(crate) fn kind_of(x: u8) -> Kind
     ensures { result ≡ kind_of x }
 {

@@ -2,7 +2,7 @@
 ghost use Rattle.std.specs.Prelude.{◌≡◌, cond, ◌∷◌, ◌+◌, ◌≤◌, leb, length};
 ghost use Rattle.std.proofs.lemmas.List.Edits.{sets};
 ghost use Rattle.packet.specs.Packet.{token, sof, payload, handshake, pid_byte, checked, low};
-ghost use Rattle.packet.specs.Reply.{result, number};
+ghost use Rattle.packet.specs.Reply.{result as used_to, number};
 ghost use Rattle.packet.specs.Writing.{write_reply, Wrote};
 
 use crate::crc::{crc16, with_crc5};
@@ -30,8 +30,8 @@ const SOF_PID: u8 = 5;
 // A PID and eleven bits with their CRC5.
 fn write_eleven(pid: u8, v: u16, out: &mut [u8], used: usize) -> WriteAnswer
     requires { (pid ≤ 15) × (v ≤ 2047) }
-    ensures* { λ r. ⌜ (write_reply r ≡ cond (leb (used + 3) (length out.old)) (result (used + 3)) (number 21))
-        × (out.new ≡ cond (leb (used + 3) (length out.old)) (sets out.old used (pid_byte pid ∷ low (checked v))) out.old) ⌝ }
+    ensures answer { write_reply result ≡ cond (leb (used + 3) (length out.old)) (used_to (used + 3)) (number 21) }
+    ensures bytes { out.new ≡ cond (leb (used + 3) (length out.old)) (sets out.old used (pid_byte pid ∷ low (checked v))) out.old }
 {
     if !has_room(out.len(), used, 3) {
         return WriteAnswer::Refused(Refusal::Room);
@@ -48,7 +48,7 @@ pub fn write_token(
     out: &mut [u8],
     used: usize,
 ) -> WriteAnswer
-    ensures* { λ r. ⌜ Wrote (token kind address endpoint) out.old used r out.new ⌝ }
+    ensures { Wrote (token kind address endpoint) out.old used result out.new }
 {
     if MAX_ADDRESS < address {
         return WriteAnswer::Refused(Refusal::Field);
@@ -62,7 +62,7 @@ pub fn write_token(
 
 // SOF with a frame number.
 pub fn write_sof(frame: u16, out: &mut [u8], used: usize) -> WriteAnswer
-    ensures* { λ r. ⌜ Wrote (sof frame) out.old used r out.new ⌝ }
+    ensures { Wrote (sof frame) out.old used result out.new }
 {
     if MAX_FRAME < frame {
         return WriteAnswer::Refused(Refusal::Field);
@@ -72,7 +72,7 @@ pub fn write_sof(frame: u16, out: &mut [u8], used: usize) -> WriteAnswer
 
 // DATA1 where `second`, else DATA0, with its bytes.
 pub fn write_data(second: bool, bytes: &[u8], out: &mut [u8], used: usize) -> WriteAnswer
-    ensures* { λ r. ⌜ Wrote (payload second bytes.now) out.old used r out.new ⌝ }
+    ensures { Wrote (payload second bytes.now) out.old used result out.new }
 {
     let n = bytes.len();
     if MAX_DATA < n {
@@ -88,7 +88,7 @@ pub fn write_data(second: bool, bytes: &[u8], out: &mut [u8], used: usize) -> Wr
 
 // ACK, NAK or STALL.
 pub fn write_handshake(kind: Handshake, out: &mut [u8], used: usize) -> WriteAnswer
-    ensures* { λ r. ⌜ Wrote (handshake kind) out.old used r out.new ⌝ }
+    ensures { Wrote (handshake kind) out.old used result out.new }
 {
     if !has_room(out.len(), used, 1) {
         return WriteAnswer::Refused(Refusal::Room);

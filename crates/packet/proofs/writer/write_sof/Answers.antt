@@ -17,4 +17,4 @@ unfolding encode
 returns c =
     let a = c.args in
     let w = c.write_eleven in
-    wrote_three (sof a.frame) (pid_byte sof_pid ∷ low (checked a.frame)) a.out.now _ a.used w.result (le-leb a.frame 2047 (omega arith)) refl refl w.ensures.0 w.ensures.1
+    wrote_three (sof a.frame) (pid_byte sof_pid ∷ low (checked a.frame)) a.out.now _ a.used w.result (le-leb a.frame 2047 (omega arith)) refl refl w.ensures.answer w.ensures.bytes

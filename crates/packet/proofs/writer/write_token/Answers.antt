@@ -24,4 +24,4 @@ returns c =
     let w = c.write_eleven in
     let p = c.token_pid in
     wrote_three (token a.kind a.address a.endpoint) (pid_byte (token_pid a.kind) ∷ low (checked (target a.address a.endpoint))) a.out.now _ a.used w.result
-    (rw (le-leb a.address 127 (omega arith), le-leb a.endpoint 15 (omega arith))) refl refl w.ensures.0 (w.ensures.1 ∙ rw p.ensures.0)
+    (rw (le-leb a.address 127 (omega arith), le-leb a.endpoint 15 (omega arith))) refl refl w.ensures.answer (w.ensures.bytes ∙ rw p.ensures.0)
