@@ -6,12 +6,12 @@ use Rattle.descriptor.proofs.walk.descriptor_at.Goals as goal
 pub part_at-requires : goal.part_at-requires
 part_at-requires c =
     let f = found_descriptor c.args.bytes.now c.args.at c.answer_at-answer.result c.in-Descriptor.is c.answer_at-answer.ensures in
-    (f, f.within)
+    (f.before, f.within)
 
 pub part_at-requires-in-Endpoint : goal.part_at-requires-in-Endpoint
 part_at-requires-in-Endpoint c =
     let f = found_endpoint c.args.bytes.now c.args.at c.answer_at-answer.result c.in-Endpoint.field-0 c.in-Endpoint.is c.answer_at-answer.ensures in
-    (f, f.within)
+    (f.before, f.within)
 
 pub returns-in-Descriptor : goal.returns-in-Descriptor
 returns-in-Descriptor c = c.part_at.ensures ∙ (found_descriptor c.args.bytes.now c.args.at c.answer_at-answer.result c.in-Descriptor.is c.answer_at-answer.ensures).is
