@@ -1,9 +1,11 @@
-// What the listings read: one input, which is all of standard input.
+// What the programs read: standard input into a room of a fixed size.
 #![tactic(auto)]
 
-ghost use Rattle.std.specs.Prelude.{◌≡◌, ◌<◌, ltb, length, take};
+ghost use Rattle.std.specs.Prelude.{◌≡◌, ◌<◌, ◌≤◌, ltb, length, take, IfOk};
+ghost use Rattle.std.specs.Io.KnownBytes.{Consumes, IsAtEnd};
 
-use libc::STDIN_FILENO;
+use std::io;
+use std::io::Read;
 
 // "at most 65,536 bytes .. 21 if the input is longer"
 pub fn is_too_long(bytes: &[u8]) -> bool
@@ -12,18 +14,41 @@ pub fn is_too_long(bytes: &[u8]) -> bool
     65536 < bytes.len()
 }
 
-// There is room for more than "65,536 bytes", so that a longer input is seen.
-fn read_room(room: &mut [u8]) -> usize
-    requires { 65536 < length room.old }
+// Reads until the room is full or the input ends. The input is the first n bytes, n the answer.
+pub fn read_full<R: Read>(input: &mut R, room: &mut [u8]) -> io::Result<usize>
+    ensures bound { IfOk result (λ n. n ≤ length room.new) }
+    ensures bytes { IfOk result (λ n. Consumes (R.remaining input.old) (R.remaining input.new) (take n room.new)) }
+    ensures end { IfOk result (λ n. n < length room.new → IsAtEnd (R.remaining input.new)) }
 {
-    io::read_full(STDIN_FILENO, room)
+    let mut done = 0;
+    while done < room.len() {
+        let n = input.read(&mut room[done..])?;
+        if n == 0 {
+            break;
+        }
+        done += n;
+    }
+    Ok(done)
+}
+
+// There is room for more than "65,536 bytes", so that a longer input is seen.
+fn read_room<R: Read>(input: &mut R, room: &mut [u8]) -> io::Result<usize>
+    requires { 65536 < length room.old }
+    ensures bound { IfOk result (λ n. n ≤ length room.new) }
+    ensures bytes { IfOk result (λ n. Consumes (R.remaining input.old) (R.remaining input.new) (take n room.new)) }
+    ensures end { IfOk result (λ n. n < length room.new → IsAtEnd (R.remaining input.new)) }
+{
+    read_full(input, room)
 }
 
 // The input is the first n bytes, n the answer.
-pub fn read_input(room: &mut [u8; 65537]) -> usize
-    ensures { length room.new ≡ 65537 }
+pub fn read_input<R: Read>(input: &mut R, room: &mut [u8; 65537]) -> io::Result<usize>
+    ensures room { length room.new ≡ 65537 }
+    ensures bound { IfOk result (λ n. n ≤ 65537) }
+    ensures bytes { IfOk result (λ n. Consumes (R.remaining input.old) (R.remaining input.new) (take n room.new)) }
+    ensures end { IfOk result (λ n. n < 65537 → IsAtEnd (R.remaining input.new)) }
 {
-    read_room(room)
+    read_room(input, room)
 }
 
 // The first n bytes, all where there are no more.

@@ -1,40 +1,44 @@
-// What the listings on standard output print alike.
+// What the listings print alike.
 #![tactic(auto)]
 
-use libc::STDOUT_FILENO;
+ghost use Rattle.std.specs.Prelude.{OnOk};
+ghost use Rattle.std.specs.Io.KnownBytes.{Appends};
 
-pub fn print_text(text: &[u8]) {
-    io::write_all(STDOUT_FILENO, text);
+use std::io;
+use std::io::Write;
+
+pub fn print_text<W: Write>(out: &mut W, text: &[u8]) -> io::Result<()>
+    ensures { OnOk result (Appends (W.contents out.old) (W.contents out.new) text.now) }
+{
+    out.write_all(text)
+}
+
+// A number in decimal digits.
+pub fn print_decimal<W: Write>(out: &mut W, n: u64) -> io::Result<()> {
+    write!(out, "{n}")
 }
 
 // A space and a number.
-pub fn print_number(n: usize) {
-    print_text(b" ");
-    io::print_decimal(STDOUT_FILENO, n as u64);
+pub fn print_number<W: Write>(out: &mut W, n: usize) -> io::Result<()> {
+    write!(out, " {n}")
 }
 
 // Two digits.
-pub fn print_byte(b: u8) {
-    io::print_hex(STDOUT_FILENO, b as u64, 2);
+pub fn print_byte<W: Write>(out: &mut W, b: u8) -> io::Result<()> {
+    write!(out, "{b:02x}")
 }
 
 // Why nothing more is listed.
-pub fn print_refused(n: u8) {
-    print_text(b"refused");
-    print_number(n as usize);
-    print_text(b"\n");
+pub fn print_refused<W: Write>(out: &mut W, n: u8) -> io::Result<()> {
+    writeln!(out, "refused {n}")
 }
 
 // A line of the input that can't be read, by its number.
-pub fn print_unreadable(line: usize) {
-    print_text(b"line");
-    print_number(line);
-    print_text(b": not a line of a script\n");
+pub fn print_unreadable<W: Write>(out: &mut W, line: usize) -> io::Result<()> {
+    writeln!(out, "line {line}: not a line of a script")
 }
 
 // The last line of a whole listing.
-pub fn print_end(count: usize) {
-    print_text(b"end");
-    print_number(count);
-    print_text(b"\n");
+pub fn print_end<W: Write>(out: &mut W, count: usize) -> io::Result<()> {
+    writeln!(out, "end {count}")
 }
