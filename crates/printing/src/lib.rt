@@ -1,7 +1,8 @@
 // What the listings print alike.
 #![tactic(auto)]
 
-ghost use Rattle.std.specs.Prelude.{OnOk};
+ghost use Rattle.std.specs.Prelude.{◌∷◌, ◌++◌, OnOk, codes};
+ghost use Rattle.std.specs.Fmt.{decimal};
 ghost use Rattle.std.specs.Io.KnownBytes.{Appends};
 
 use std::io;
@@ -14,12 +15,16 @@ pub fn print_text<W: Write>(out: &mut W, text: &[u8]) -> io::Result<()>
 }
 
 // A number in decimal digits.
-pub fn print_decimal<W: Write>(out: &mut W, n: u64) -> io::Result<()> {
+pub fn print_decimal<W: Write>(out: &mut W, n: u64) -> io::Result<()>
+    ensures { OnOk result (Appends (W.contents out.old) (W.contents out.new) (decimal n)) }
+{
     write!(out, "{n}")
 }
 
 // A space and a number.
-pub fn print_number<W: Write>(out: &mut W, n: usize) -> io::Result<()> {
+pub fn print_number<W: Write>(out: &mut W, n: usize) -> io::Result<()>
+    ensures { OnOk result (Appends (W.contents out.old) (W.contents out.new) (32 ∷ decimal n)) }
+{
     write!(out, " {n}")
 }
 
@@ -29,16 +34,22 @@ pub fn print_byte<W: Write>(out: &mut W, b: u8) -> io::Result<()> {
 }
 
 // Why nothing more is listed.
-pub fn print_refused<W: Write>(out: &mut W, n: u8) -> io::Result<()> {
+pub fn print_refused<W: Write>(out: &mut W, n: u8) -> io::Result<()>
+    ensures { OnOk result (Appends (W.contents out.old) (W.contents out.new) (codes "refused " ++ decimal n ++ codes "\n")) }
+{
     writeln!(out, "refused {n}")
 }
 
 // A line of the input that can't be read, by its number.
-pub fn print_unreadable<W: Write>(out: &mut W, line: usize) -> io::Result<()> {
+pub fn print_unreadable<W: Write>(out: &mut W, line: usize) -> io::Result<()>
+    ensures { OnOk result (Appends (W.contents out.old) (W.contents out.new) (codes "line " ++ decimal line ++ codes ": not a line of a script\n")) }
+{
     writeln!(out, "line {line}: not a line of a script")
 }
 
 // The last line of a whole listing.
-pub fn print_end<W: Write>(out: &mut W, count: usize) -> io::Result<()> {
+pub fn print_end<W: Write>(out: &mut W, count: usize) -> io::Result<()>
+    ensures { OnOk result (Appends (W.contents out.old) (W.contents out.new) (codes "end " ++ decimal count ++ codes "\n")) }
+{
     writeln!(out, "end {count}")
 }
