@@ -1,9 +1,8 @@
 -- All entries are looked at, in order. Assumes nothing.
 use mathlib.Core.Path.{refl, sym, ◌∙◌}
-use Prim.Native.Nat.{◌-◌, zero-le}
+use Prim.Native.Nat.{zero-le}
 use native.Mathlib.Numerals.{add-one}
 use native.Mathlib.Omega.{arith}
-use borrow.Author.Tests.{not-true, not-false}
 use Rattle.poll.proofs.Tables.{next_good, over_good}
 use Rattle.poll.proofs.table.all_good.Goals as goal
 
@@ -17,7 +16,7 @@ pub returns-then-not-entry_good : goal.returns-then-not-entry_good
 returns-then-not-entry_good c =
     let loop = c.loop-i in
     let table = c.args.table.now in
-    sym (loop.invariant.0 ∙ next_good table loop.i (omega arith) ∙ rw (sym c.entry_good.ensures ∙ not-true _ c.if-not-entry_good.true))
+    sym (loop.invariant.0 ∙ next_good table loop.i (omega arith) ∙ rw (sym c.entry_good.ensures ∙ c.if-not-entry_good.true))
 
 pub overflow_step-i : goal.overflow_step-i
 overflow_step-i c = omega arith
@@ -29,7 +28,7 @@ pub loop-i-preserved : goal.loop-i-preserved
 loop-i-preserved c =
     let loop = c.loop-i in
     let table = c.args.table.now in
-    (loop.invariant.0 ∙ next_good table loop.i (omega arith) ∙ rw (sym c.entry_good.ensures ∙ not-false _ c.if-not-entry_good.false, add-one), omega arith)
+    (loop.invariant.0 ∙ next_good table loop.i (omega arith) ∙ rw (sym c.entry_good.ensures ∙ c.if-not-entry_good.false, add-one), omega arith)
 
 pub returns : goal.returns
 returns c =
