@@ -111,7 +111,7 @@ pub fn play(
     own: &mut [u8; 131072],
     bytes: &mut [u8; 131072],
     record: &mut [u8; 131072],
-    out: &mut [u8; 600000],
+    out: &mut [u8; 1048576],
 ) -> Callers {
     let c = command_of(p, line, bytes);
     run(s, p.lines, c, pm, buf, own, bytes, record, out)

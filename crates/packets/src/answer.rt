@@ -9,14 +9,16 @@ use packet::refusal::number;
 use packet::writer::{WriteAnswer, write_data, write_handshake, write_sof, write_token};
 use printing::print_text;
 use script::text::{put, put_decimal, put_pairs};
+use std::io;
+use std::io::Write;
 
 // The longest packet: a PID, 64 bytes and CRC16.
 const LONGEST: usize = 67;
 
 // Writes out the first `at` bytes as a line.
-fn print(text: &mut [u8], at: usize) {
+fn print<W: Write>(out: &mut W, text: &mut [u8], at: usize) -> io::Result<()> {
     let n = put(text, at, b"\n");
-    print_text(first(text, n));
+    print_text(out, first(text, n))
 }
 
 fn put_number(text: &mut [u8], at: usize, word: &[u8], n: usize) -> usize {
@@ -106,10 +108,15 @@ fn lent_at_most(lent: usize) -> usize
     if lent < LONGEST { lent } else { LONGEST }
 }
 
-pub fn answer(command: Command, bytes: &[u8; 131072], lent: usize) {
+pub fn answer<W: Write>(
+    out: &mut W,
+    command: Command,
+    bytes: &[u8; 131072],
+    lent: usize,
+) -> io::Result<()> {
     let mut text = [0u8; 256];
     let mut packet = [0u8; LONGEST];
     let n = lent_at_most(lent);
     let k = put_answer(&mut text, command, bytes, &mut packet[..n]);
-    print(&mut text, k);
+    print(out, &mut text, k)
 }

@@ -2,27 +2,28 @@
 ghost use Rattle.std.specs.Prelude.{◌≤◌};
 
 use crate::within::{least, within};
-use libc::STDOUT_FILENO;
 use script::text::{put, put_decimal, put_hex};
+use std::io;
+use std::io::Write;
 
-fn flush(out: &[u8], at: usize) {
+// What has been put is written out.
+pub fn flush_rest<W: Write>(to: &mut W, out: &[u8; 1048576], at: usize) -> io::Result<()> {
     let n = within(at, out);
-    io::write_all(STDOUT_FILENO, &out[..n]);
+    to.write_all(&out[..n])
 }
 
-// What is left at the end.
-pub fn flush_rest(out: &[u8; 600000], at: usize) {
-    flush(out, at);
-}
-
-// The end of a line; an output that is long enough is written out.
-pub fn end(out: &mut [u8], at: usize) -> usize {
-    let at = put(out, at, b"\n");
+// After a block: an output that is long enough is written out. There is room for the longest block, of less than 970,000 bytes, behind one that isn't.
+pub fn flush_long<W: Write>(to: &mut W, out: &[u8; 1048576], at: usize) -> io::Result<usize> {
     if at < 65536 {
-        return at;
+        return Ok(at);
     }
-    flush(out, at);
-    0
+    flush_rest(to, out, at)?;
+    Ok(0)
+}
+
+// The end of a line.
+pub fn end(out: &mut [u8], at: usize) -> usize {
+    put(out, at, b"\n")
 }
 
 pub fn block_end(out: &mut [u8], at: usize) -> usize {

@@ -2,10 +2,12 @@
 ghost use Rattle.std.specs.Prelude.{◌+◌, ◌<◌, length};
 
 use crate::within::{least, within};
-use libc::STDIN_FILENO;
+use input::read_full;
 use script::field::end_of;
 use script::line::is_skipped;
 use script::text::put;
+use std::io;
+use std::io::Read;
 
 // `from` to `to` of the chunk is still to be read. The first `length` bytes of the line are of line number `lines` + 1, of which a
 // part is there if `begun`, and for which there was no room if `long`. `whole`: they are line number `lines`.
@@ -51,8 +53,8 @@ fn ended(mut p: Place) -> Place {
     p
 }
 
-fn refill(mut p: Place, chunk: &mut [u8]) -> Place {
-    let got = io::read_full(STDIN_FILENO, chunk);
+// The chunk has `got` bytes more, none at the input's end.
+fn filled(mut p: Place, got: usize) -> Place {
     p.from = 0;
     p.to = got;
     if got > 0 {
@@ -63,6 +65,11 @@ fn refill(mut p: Place, chunk: &mut [u8]) -> Place {
         return ended(p);
     }
     p
+}
+
+fn refill<R: Read>(p: Place, input: &mut R, chunk: &mut [u8]) -> io::Result<Place> {
+    let got = read_full(input, chunk)?;
+    Ok(filled(p, got))
 }
 
 // Takes the text up to the line's end, or all of it.
@@ -99,12 +106,17 @@ fn anew(mut p: Place) -> Place {
 }
 
 // One turn: the chunk is filled again, or a line's bytes are taken from it.
-pub fn turn(p: Place, chunk: &mut [u8; 65536], line: &mut [u8; 300000]) -> Place {
+pub fn turn<R: Read>(
+    p: Place,
+    input: &mut R,
+    chunk: &mut [u8; 65536],
+    line: &mut [u8; 300000],
+) -> io::Result<Place> {
     let q = anew(p);
     if q.from < q.to {
-        return next_line(q, chunk, line);
+        return Ok(next_line(q, chunk, line));
     }
-    refill(q, chunk)
+    refill(q, input, chunk)
 }
 
 // The line's bytes.

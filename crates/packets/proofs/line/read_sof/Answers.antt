@@ -1,0 +1,29 @@
+-- `read_sof` is `sof_of`, field by field.
+-- Assumes nothing.
+use mathlib.Core.Path.{sym, ◌∙◌}
+use borrow.Author.Tests.{eq-eqb, ne_eqb}
+use Rattle.packets.specs.Lines.{sof_of}
+use Rattle.packets.proofs.line.read_sof.Goals as goal
+
+pub returns-then-fields-ne2 : goal.returns-then-fields-ne2
+unfolding sof_of
+returns-then-fields-ne2 c =
+    let if1 = c.if-fields-ne2.true in
+    let fields = c.fields in
+    simp (ne_eqb _ _ (λ e. if1 (fields.ensures ∙ e)))
+
+pub returns-in_default : goal.returns-in_default
+unfolding sof_of
+returns-in_default c =
+    let half_at = c.half_at-f1 in
+    let if1 = c.if-fields-ne2.false in
+    let fields = c.fields in
+    simp (eq-eqb _ _ (sym fields.ensures ∙ if1), sym half_at.ensures ∙ c.in_default.is)
+
+pub returns : goal.returns
+unfolding sof_of
+returns c =
+    let half_at = c.half_at-f1 in
+    let if1 = c.if-fields-ne2.false in
+    let fields = c.fields in
+    simp (eq-eqb _ _ (sym fields.ensures ∙ if1), sym half_at.ensures ∙ c.in-Some.is)
