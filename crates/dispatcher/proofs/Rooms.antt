@@ -1,14 +1,22 @@
 -- Remainders. Assumes nothing.
-use mathlib.Core.Path.{◌≡◌, refl, sym}
+use mathlib.Core.Path.{◌≡◌, refl, sym, ap}
 use mathlib.Core.Bool.{Bool, true, false, cond, ◌&&◌, true≢false}
 use mathlib.Core.List.{List}
-use Prim.Native.Nat.{ℕ, zero, suc, ◌+◌, ◌≤◌}
+use Prim.Native.Nat.{ℕ, zero, suc, ◌+◌, ◌-◌, ◌≤◌}
 use native.Mathlib.Omega.{arith}
 use lib.ListN.{length, get_or, replicate}
 use lib.Dec.{leb, eqb}
-use borrow.Author.Tests.{leb-true, le-leb}
+use borrow.Author.Tests.{leb-true, le-leb, leb-false, lt-leb, eq-eqb, ne_eqb}
 use Rattle.dispatcher.specs.declared.Dispatcher.{Dispatcher}
 use Rattle.dispatcher.specs.Dispatcher.{pending_at, requested_at, quota_at, used_at, fits, charged, in_frame}
+
+-- The same test, by the remainder and by the sum.
+pub room_by : (used n quota : ℕ) → used ≤ quota → leb n (quota - used) ≡ leb (used + n) quota
+room_by used n quota h = go (leb n (quota - used)) refl
+  where
+    go : (b : Bool) → leb n (quota - used) ≡ b → b ≡ leb (used + n) quota
+    go true e = let q = leb-true n (quota - used) e in sym (le-leb (used + n) quota (omega (arith, q, h)))
+    go false e = let q = leb-false n (quota - used) e in sym (lt-leb (used + n) quota (omega (arith, q, h)))
 
 -- ---- who fits
 
@@ -34,6 +42,17 @@ pub zeros : (n c : ℕ) → ◌≡◌ {A = ℕ} (get_or (replicate n 0) c 0) 0
 zeros zero c = refl
 zeros (suc n) zero = refl
 zeros (suc n) (suc c) = zeros n c
+
+-- Other spent counts, in frame f.
+abbrev pub with_used : Dispatcher → ℕ → List ℕ → Dispatcher
+with_used t f used = record { pending = t.pending; requested = t.requested; quota = t.quota; used = used; turn = t.turn; last = t.last; frame = f }
+
+-- Another number, and the same.
+pub frame_new : (t : Dispatcher) (f : ℕ) → ((f ≡ t.frame) → ⊥) → with_used t f (replicate 8 0) ≡ in_frame t f
+frame_new t f e = ap (λ (b : Bool). with_used t f (cond b t.used (replicate 8 0))) (sym (ne_eqb f t.frame e))
+
+pub frame_same : (t : Dispatcher) (f : ℕ) → f ≡ t.frame → with_used t f t.used ≡ in_frame t f
+frame_same t f e = ap (λ (b : Bool). with_used t f (cond b t.used (replicate 8 0))) (sym (eq-eqb f t.frame e))
 
 -- No spent count grows,
 pub used_frame : (t : Dispatcher) (f c : ℕ) → used_at (in_frame t f) c ≤ used_at t c
