@@ -2,12 +2,12 @@
 use mathlib.Core.Path.{◌≡◌, refl, ap, sym, ◌∙◌}
 use mathlib.Core.Bool.{false}
 use mathlib.Core.List.{List, [], ◌∷◌, ◌++◌, append_assoc}
-use Prim.Native.Nat.{ℕ, ◌+◌, ◌≤◌, ◌<◌}
+use Prim.Native.Nat.{ℕ, ◌+◌, ◌≤◌}
 use native.Mathlib.Omega.{arith}
 use lib.ListN.{length, drop}
 use lib.Seq.{sets-eq}
 use borrow.Author.Tests.{le-leb, lt-leb}
-use Rattle.packet.specs.Packet.{Packet, token, payload, encode}
+use Rattle.packet.specs.Packet.{Packet, token, payload}
 use Rattle.packet.specs.declared.packet.Token.TheVariants.{Out, Setup}
 use Rattle.transfers.specs.Reply.{result}
 use Rattle.record.specs.Segments.{Element}

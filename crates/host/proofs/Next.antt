@@ -1,9 +1,7 @@
 -- Who starts next, as the code finds it out. Assumes nothing.
 use mathlib.Core.Path.{◌≡◌, refl, sym, ap, ◌∙◌}
 use mathlib.Core.Bool.{Bool, true, false, cond, ◌&&◌}
-use mathlib.Core.List.{[], ◌∷◌}
 use Prim.Native.Nat.{ℕ}
-use native.Mathlib.Omega.{arith}
 use lib.Dec.{leb}
 use Rattle.transfers.specs.declared.refusal.OptionRefusal.{OptionRefusal}
 use Rattle.transfers.specs.declared.refusal.OptionRefusal.TheVariants.{None}
@@ -18,7 +16,6 @@ use Rattle.host.specs.declared.start.OptionStart.TheVariants.{Ready, Unready}
 use Rattle.host.specs.Fields.{requested_of, fields_refused}
 use Rattle.host.specs.Controller.{fields_at, turn_of}
 use Rattle.host.specs.Start.{control, bulk_in, bulk_out, of_kind, is_none, next_at, next_start}
-use Rattle.host.specs.contracts.fields.Fields as F
 
 -- By the four tests: a caller, which waits, with a remainder that is large enough and fields that a coming takes.
 by_tests : (d : HostController) (c : ℕ) (a w r v : Bool) → c ≡ turn_of d → leb c 7 ≡ a → pending_at d.dispatcher c ≡ w → has_room d.dispatcher c (requested_of (fields_at d c)) ≡ r

@@ -19,7 +19,7 @@ use Rattle.transfers.specs.declared.answers.OptionSetup.TheVariants.{Some as som
 use Rattle.transfers.specs.declared.answers.OptionOut.{OptionOut}
 use Rattle.transfers.specs.declared.answers.OptionOut.TheVariants.{Some as some_out, None as no_out}
 use Rattle.record.proofs.Both.{and_left, and_right}
-use Rattle.record.specs.Grammar.{Entry, setup}
+use Rattle.record.specs.Grammar.{Entry}
 use Rattle.record.specs.Segments.{Element, entry}
 use Rattle.record.specs.Bytes.{head_bytes, encode, encode_all, encode_element, encode_elements}
 use Rattle.record.specs.Armed.{setups_armed, outs_armed, entries_armed}

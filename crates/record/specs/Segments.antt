@@ -1,5 +1,5 @@
 -- Record version 2: version 1's entries, and 0x58 with a count where a transfer failed.
-use Rattle.std.specs.Prelude.{◌≡◌, List, [], ◌∷◌, ◌++◌, map, ℕ, ◌+◌, length}
+use Rattle.std.specs.Prelude.{◌≡◌, List, [], ◌∷◌, ◌++◌, map, ℕ, length}
 use Rattle.record.specs.Grammar.{Entry, Part, part_entries, Fits, AllFit, parts_entries}
 
 -- An entry of version 2: one of version 1, or "the entry 0x58 and a 32-bit count".

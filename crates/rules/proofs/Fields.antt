@@ -1,7 +1,7 @@
 -- Fields of a register after a masked write. Assumes nothing.
 use mathlib.Core.Path.{◌≡◌, refl, sym, ap, ◌∙◌}
 use mathlib.Core.Bool.{Bool, true, false}
-use Prim.Native.Nat.{ℕ, ◌+◌, ◌*◌, ◌-◌, ◌/◌, ◌%◌, ◌^◌}
+use Prim.Native.Nat.{ℕ, ◌+◌, ◌*◌, ◌/◌, ◌%◌, ◌^◌}
 use lib.Bits.{bit_or, and_zero_r, or_zero_l}
 use lib.Pow.{shr-shr, shl-shr}
 use lib.Dec.{eqb}

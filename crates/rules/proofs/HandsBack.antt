@@ -3,7 +3,7 @@ use mathlib.Core.Path.{◌≡◌, refl, sym, ap, ◌∙◌, subst}
 use mathlib.Core.Bool.{Bool, true, false, cond, true≢false}
 use mathlib.Core.Logic.{◌⊎◌, inl, inr}
 use mathlib.Core.List.{List, [], ◌∷◌, ◌++◌}
-use Prim.Native.Nat.{ℕ, zero, suc, ◌+◌, ◌*◌, ◌/◌, ◌%◌, ◌^◌, ◌≤◌, ◌<◌}
+use Prim.Native.Nat.{ℕ, zero, suc, ◌*◌, ◌/◌, ◌%◌, ◌^◌, ◌≤◌, ◌<◌}
 use native.Mathlib.Nat.{div-one}
 use native.Mathlib.Omega.{arith}
 use borrow.Author.Tests.{le-leb}
@@ -64,7 +64,7 @@ use Rattle.transfers.specs.Reply.{Reply, result, number, begin_reply, StepResult
 use Rattle.transfers.specs.Sample.{errors, first_of, classify}
 use Rattle.transfers.specs.Retiring.{InRetiring, in_retire_one}
 use Rattle.transfers.specs.State.{control_of, address_good, endpoint_good, size_good}
-use Rattle.transfers.specs.Outcome.{Outcome, toggle_in, toggle_out, waits, failed}
+use Rattle.transfers.specs.Outcome.{Outcome, toggle_in, toggle_out, failed}
 use Rattle.transfers.specs.Step.{setup_done, setup_step, in_received, in_done, in_second_done, in_first_done, in_complete, in_second_moved, in_first_moved, in_rearm, in_move, in_step, out_retire_two, out_control_done, out_done, out_complete, out_move, out_step, lent, keeping, stage_step, polls, acts}
 use Rattle.transfers.specs.Calls.{held_toggle, refuses, step_if, may_step, step_lent, step_of, cancel_if, stage_parity, either_serves, cancel_of, Beginning, fields_refusal, begin_refusal, begin_or, is_idle, begins_control, begin_control_of, bulk_request, begins_bulk_in, begin_bulk_in_of, begins_bulk_out, begin_bulk_out_of}
 use Rattle.transfers.specs.Driver.{with_transfer, toggle_by_rule, dropped}

@@ -5,7 +5,6 @@ use Prim.Native.Nat.{◌<◌}
 use native.Mathlib.Omega.{arith}
 use lib.ListN.{length, drop, length-drop}
 use lib.Seq.{length-take-le}
-use Rattle.transfers.specs.declared.driver.Kind.TheVariants.{Control as control}
 use Rattle.transfers.specs.Registers.{field}
 use Rattle.transfers.proofs.OpenPipes.{lent_sizes}
 use Rattle.rules.specs.Received.{StepCall, lent_well, packet_at, Receives}

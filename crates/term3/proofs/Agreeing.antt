@@ -33,7 +33,7 @@ use Rattle.record.specs.Calls.{Begin, control_begin, bulk_begin}
 use Rattle.record.specs.Calls as D
 use Rattle.record.specs.Shown.{note}
 use Rattle.term3.specs.Calls.{Call, submit, whose_turn, start, driver, fields_of, call}
-use Rattle.term3.specs.Callers.{Coming, requested_by, requested, Callers, no_callers, put, in_frame, joins, looks, ends, is_end, hears}
+use Rattle.term3.specs.Callers.{Coming, requested_by, Callers, no_callers, put, in_frame, joins, looks, ends, is_end, hears}
 use Rattle.term3.specs.HostCalls.{Made, fresh_for}
 use Rattle.term3.proofs.Fair.{event_of, Fair, good_next, Asks, fair}
 use Rattle.term3.proofs.Same.{Same, same_finds, same_frame, same_joins, same_looks, put_false, same_runs, same_ends}

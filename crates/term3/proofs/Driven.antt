@@ -8,7 +8,7 @@ use Rattle.transfers.specs.Answers.{nothing_armed}
 use Rattle.host.specs.declared.answers.SubmitRefusal.{SubmitRefusal}
 use Rattle.host.specs.declared.answers.SubmitAnswer.{SubmitAnswer}
 use Rattle.host.specs.declared.answers.SubmitAnswer.TheVariants.{Refused as refused_submit}
-use Rattle.host.specs.declared.answers.StartAnswer.TheVariants.{Started, Refused as start_refused}
+use Rattle.host.specs.declared.answers.StartAnswer.TheVariants.{Refused as start_refused}
 use Rattle.host.specs.declared.fields.Fields.{Fields}
 use Rattle.host.specs.declared.controller.HostController.{HostController}
 use Rattle.host.specs.Submit.{submit_next, submit_of}

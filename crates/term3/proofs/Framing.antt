@@ -1,21 +1,20 @@
 -- The charges of every frame. Assumes nothing.
 use mathlib.Core.Path.{◌≡◌, refl, sym, ap, ap₂, subst, ◌∙◌}
-use mathlib.Core.Bool.{Bool, true, false, cond, not}
+use mathlib.Core.Bool.{Bool, true, false, cond}
 use mathlib.Core.List.{List, [], ◌∷◌, ◌++◌}
 use Prim.Native.Nat.{ℕ, ◌+◌, ◌≤◌, ◌<◌}
 use native.Mathlib.Omega.{arith}
 use lib.ListN.{get_or}
 use lib.Dec.{eqb}
 use borrow.Author.Tests.{eqb-true, eqb-false, eq-eqb, ne_eqb}
-use Rattle.dispatcher.specs.Dispatcher.{quota_at, used_at}
+use Rattle.dispatcher.specs.Dispatcher.{used_at}
 use Rattle.host.specs.declared.answers.SubmitAnswer.TheVariants.{Accepted, Refused as refused_submit}
 use Rattle.host.specs.declared.answers.StartAnswer.TheVariants.{Started, Refused as start_refused}
 use Rattle.host.specs.declared.controller.HostController.{HostController}
-use Rattle.host.specs.Controller.{dispatcher_now}
 use Rattle.record.specs.Shown.{note}
 use Rattle.term3.specs.Calls.{Call, submit, whose_turn, start, driver, Answer, call}
 use Rattle.term3.specs.Callers.{requested, Callers, no_callers, put, ends, is_end, hears}
-use Rattle.term3.specs.HostCalls.{Made, fresh_for}
+use Rattle.term3.specs.HostCalls.{fresh_for}
 use Rattle.term3.specs.Turns.{after}
 use Rattle.term3.specs.Frames.{Charge, charges, seen, frames_from, sum_of, AllWithin, last_of, Frames}
 use Rattle.term3.proofs.Agreeing.{Agrees, agrees_next, fresh_agrees}

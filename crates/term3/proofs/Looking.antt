@@ -2,7 +2,7 @@
 use mathlib.Core.Path.{◌≡◌, refl, sym, ap, ap₂, subst, ◌∙◌}
 use mathlib.Core.Bool.{Bool, true, false, cond, not, ◌&&◌, ◌||◌, true≢false}
 use mathlib.Core.List.{List}
-use Prim.Native.Nat.{ℕ, zero, suc, ◌+◌, ◌≤◌, ◌<◌}
+use Prim.Native.Nat.{ℕ, zero, suc, ◌+◌, ◌<◌}
 use native.Mathlib.Omega.{arith}
 use lib.Dec.{eqb, leb}
 use borrow.Author.Tests.{leb-true, leb-false, lt-leb, eqb-true, eqb-false, eq-eqb}
@@ -25,7 +25,7 @@ use Rattle.host.specs.Controller.{idle, dispatcher_now, observed}
 use Rattle.host.specs.Controller as H
 use Rattle.host.specs.Turn.{whose_turn_of}
 use Rattle.host.specs.Start.{StartKind, Starting, start_of}
-use Rattle.host.proofs.Begins.{next_in, Begins, Start, refused_start, taken_start, start_is}
+use Rattle.host.proofs.Begins.{next_in, Start, refused_start, taken_start, start_is}
 use Rattle.record.specs.Calls.{Begin}
 use Rattle.record.specs.Calls as D
 use Rattle.record.specs.Table.{fields_row}
@@ -35,8 +35,8 @@ use Rattle.term3.specs.Callers.{Coming, requested_by, requested, Callers, any_wa
 use Rattle.term3.specs.Table.{Row}
 use Rattle.term3.specs.Turns.{looked, answer_for, is_started}
 use Rattle.term3.proofs.Ends.{ends_busy}
-use Rattle.term3.proofs.Same.{Same, same_fits, same_finds, same_frame, same_joins, same_looks}
-use Rattle.term3.proofs.Agreeing.{Agrees, requested_same, coming_same, agrees_next}
+use Rattle.term3.proofs.Same.{same_fits, same_finds, same_frame, same_joins}
+use Rattle.term3.proofs.Agreeing.{Agrees, agrees_next}
 use Rattle.term3.proofs.Table.{whose_is, row_told}
 
 -- ---- looks

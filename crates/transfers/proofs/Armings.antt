@@ -1,5 +1,5 @@
 -- Laws of arming and retiring: few writes, at most two in flight, offset and rest kept, only the slots stored to. Assumes nothing.
-use Rattle.std.proofs.Common.{◌≡◌, ℕ, ◌+◌, ◌-◌, ◌<◌, ◌≤◌, Bool, true, false, not, ◌&&◌, ltb, List, length, take, drop, refl, ◌∙◌, arith, length-append, ltb-true}
+use Rattle.std.proofs.Common.{◌≡◌, ℕ, ◌+◌, ◌<◌, ◌≤◌, Bool, true, false, not, ◌&&◌, ltb, List, length, take, drop, refl, ◌∙◌, arith, length-append, ltb-true}
 use lib.Seq.{length-sets}
 use Rattle.cutting.specs.declared.packetiser.Arm.{Arm}
 use Rattle.cutting.specs.declared.packetiser.OptionArm.{OptionArm}

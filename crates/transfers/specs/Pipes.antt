@@ -1,5 +1,5 @@
 -- The interrupt pipes: "Buffer of pipe n at 0x200 + 128 × n, poll interval min(interval, 9), at most 64 bytes handed out. A packet flips the toggle and arms again."
-use Rattle.std.specs.Prelude.{◌≡◌, ℕ, ◌+◌, ◌-◌, ◌*◌, ◌^◌, min, Bool, true, false, cond, not, List, [], ◌∷◌, ◌++◌, take, drop, set, replicate, slice_index_or, slice_set}
+use Rattle.std.specs.Prelude.{◌≡◌, ℕ, ◌+◌, ◌-◌, ◌*◌, ◌^◌, min, Bool, true, false, cond, not, List, [], ◌∷◌, ◌++◌, take, drop, replicate, slice_index_or, slice_set}
 use Rattle.pool.specs.declared.bitset.BitSet.{BitSet}
 use Rattle.pool.specs.declared.async_pool.Pool.{Pool}
 use Rattle.pool.specs.declared.async_pool.PoolIndex.{PoolIndex}

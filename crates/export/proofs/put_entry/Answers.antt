@@ -2,7 +2,7 @@
 use mathlib.Core.Path.{ap, sym, ◌∙◌}
 use Prim.Native.Nat.{◌+◌, ◌-◌}
 use native.Mathlib.Omega.{arith}
-use lib.ListN.{length, drop, length-drop}
+use lib.ListN.{drop, length-drop}
 use Rattle.record.proofs.Looking.{setup_inside, out_inside}
 use Rattle.record.specs.declared.look.Look.{Look}
 use Rattle.export.specs.Export.{packets_of}

@@ -2,7 +2,6 @@
 -- Assumes nothing.
 use mathlib.Core.Path.{sym, ◌∙◌}
 use native.Mathlib.Omega.{arith}
-use Prim.Native.Nat.{◌-◌}
 use Rattle.record.proofs.Spans.{walk_start, walk_on, packet_further, group_ended}
 use Rattle.record.proofs.items.group_at.Goals as goal
 

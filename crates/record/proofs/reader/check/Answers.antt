@@ -5,7 +5,6 @@ use native.Mathlib.Omega.{arith}
 use Rattle.record.specs.Reader.{check_of}
 use Rattle.record.specs.declared.refusal.Refusal.TheVariants.{Mark}
 use Rattle.record.specs.declared.reader.CheckAnswer.TheVariants.{Refused}
-use Prim.Native.Nat.{◌-◌}
 use Rattle.record.proofs.Verdicts.{verdict_of}
 use Rattle.record.proofs.Turns.{head_five, start, onward, turn_onward, read_stop}
 use Rattle.record.proofs.reader.check.Goals as goal

@@ -1,6 +1,5 @@
 -- `in_arm` is `in_arm`. Assumes nothing.
 use Rattle.std.proofs.Common.{sym, refl, ap, ◌∙◌, arith}
-use borrow.Author.Tests.{not-true, not-false}
 use Rattle.transfers.proofs.Logs.{nothing}
 use Rattle.transfers.proofs.Armings.{may_flight}
 use Rattle.cutting.specs.declared.packetiser.InNext.{InNext}

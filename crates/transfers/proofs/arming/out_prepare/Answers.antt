@@ -1,7 +1,6 @@
 -- `out_prepare` is `out_arm`. Assumes nothing.
 use Rattle.std.proofs.Common.{◌-◌, length, drop, sym, refl, ap, ◌∙◌, arith, length-drop, length-take, take-take}
 use Rattle.cutting.proofs.Next.{out_fits}
-use borrow.Author.Tests.{not-true, not-false}
 use Rattle.transfers.proofs.Logs.{nothing}
 use Rattle.transfers.proofs.Armings.{may_flight}
 use Rattle.cutting.specs.declared.packetiser.OutNext.{OutNext}

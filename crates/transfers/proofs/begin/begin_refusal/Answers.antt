@@ -1,6 +1,5 @@
 -- `begin_refusal` is `begin_refusal`. Assumes nothing.
 use Rattle.std.proofs.Common.{sym, ◌∙◌}
-use borrow.Author.Tests.{not-true, not-false}
 use Rattle.transfers.proofs.begin.begin_refusal.Goals as goal
 
 pub returns-then-not-lent_fits : goal.returns-then-not-lent_fits

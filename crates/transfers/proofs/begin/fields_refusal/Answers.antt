@@ -1,6 +1,5 @@
 -- `fields_refusal` is `fields_refusal`. Assumes nothing.
 use Rattle.std.proofs.Common.{sym, ◌∙◌}
-use borrow.Author.Tests.{not-true, not-false}
 use Rattle.transfers.proofs.begin.fields_refusal.Goals as goal
 
 pub returns-then-not-address_good : goal.returns-then-not-address_good

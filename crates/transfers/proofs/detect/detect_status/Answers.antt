@@ -1,6 +1,5 @@
 -- `detect_status` is `detecting_status`. Assumes nothing.
 use Rattle.std.proofs.Common.{sym, refl, ◌∙◌, lit<, leb-true}
-use borrow.Author.Tests.{not-true, not-false}
 use Rattle.transfers.specs.Detect.{detecting_status}
 use Rattle.transfers.proofs.Logs.{nothing}
 use Rattle.transfers.proofs.detect.detect_status.Goals as goal

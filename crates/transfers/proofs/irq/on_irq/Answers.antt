@@ -1,6 +1,5 @@
 -- `on_irq` is `waking`. Assumes nothing.
 use Rattle.std.proofs.Common.{sym, refl, ◌∙◌, arith, leb-true}
-use borrow.Author.Tests.{not-true, not-false}
 use Rattle.transfers.specs.Memory.{LogFits}
 use Rattle.transfers.specs.Irq.{woken_pipes, waking}
 use Rattle.transfers.proofs.Logs.{nothing, then}

@@ -1,5 +1,5 @@
 -- `woken_pipes` is the set. The invariant: the pipes below i are looked at. Assumes nothing.
-use Rattle.std.proofs.Common.{◌≡◌, ◌-◌, refl, ◌∙◌, zero-le, add-one, arith}
+use Rattle.std.proofs.Common.{◌≡◌, refl, ◌∙◌, zero-le, add-one, arith}
 use Rattle.pool.specs.Set.{set_of}
 use Rattle.pool.proofs.Sets.{set_of_lt}
 use Rattle.transfers.specs.Irq.{irq_pipes, is_woken, woken_pipes}

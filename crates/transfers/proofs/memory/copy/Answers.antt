@@ -1,5 +1,5 @@
 -- `copy` stores the first n bytes of its source. The invariant: the first i are stored. Assumes nothing.
-use Rattle.std.proofs.Common.{◌≡◌, ◌-◌, refl, ◌∙◌, zero-le, arith, length-set}
+use Rattle.std.proofs.Common.{◌≡◌, refl, ◌∙◌, zero-le, arith, length-set}
 use Rattle.pool.proofs.Stores.{copy_more}
 use Rattle.transfers.proofs.memory.copy.Goals as goal
 

@@ -1,5 +1,5 @@
 -- `fill_slot` stores the packet at its slot. Assumes nothing.
-use Rattle.std.proofs.Common.{ℕ, ◌-◌, take, ap, ◌∙◌, arith}
+use Rattle.std.proofs.Common.{ℕ, take, ap, ◌∙◌, arith}
 use lib.Seq.{sets}
 use Rattle.transfers.proofs.Stores.{slot_inside}
 use Rattle.transfers.proofs.memory.fill_slot.Goals as goal

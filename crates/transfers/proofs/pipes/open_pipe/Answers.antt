@@ -1,7 +1,7 @@
 -- `open_pipe` is `opening_pipe`. Assumes nothing.
 use Rattle.transfers.specs.Pipes.{opening_pipe}
 use Rattle.std.proofs.Common.{sym, ◌∙◌, arith, le-leb, leb-true}
-use borrow.Author.Tests.{lt-leb, not-true, not-false}
+use borrow.Author.Tests.{lt-leb}
 use Rattle.transfers.proofs.OpenPipes.{between, refused_open}
 use Rattle.transfers.proofs.pipes.open_pipe.Goals as goal
 

@@ -1,5 +1,5 @@
 -- `packet_data` copies a packet out of its area. The invariant: the first i bytes are copied. Assumes nothing.
-use Rattle.std.proofs.Common.{◌≡◌, ℕ, ◌-◌, sym, ap, ◌∙◌, arith}
+use Rattle.std.proofs.Common.{◌≡◌, ℕ, sym, ap, ◌∙◌, arith}
 use Rattle.transfers.proofs.OpenPipes.{copied, copied_none, copied_more, copied_all}
 use Rattle.transfers.proofs.pipes.packet_data.Goals as goal
 

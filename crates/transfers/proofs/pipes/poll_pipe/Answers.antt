@@ -1,6 +1,5 @@
 -- `poll_pipe` is `polling_pipe`. Assumes nothing.
 use Rattle.std.proofs.Common.{sym, refl, ◌∙◌, arith}
-use borrow.Author.Tests.{not-true, not-false}
 use Rattle.transfers.specs.Pipes.{polling_pipe}
 use Rattle.transfers.proofs.OpenPipes.{refused_poll, lent_sizes, open_some}
 use Rattle.transfers.proofs.pipes.poll_pipe.Goals as goal

@@ -2,7 +2,6 @@
 use Rattle.std.proofs.Common.{sym, refl, ap, ◌∙◌, arith, le-ltb, lt-ltb}
 use Rattle.cutting.specs.declared.depacketiser.InRetired.{InRetired}
 use Rattle.cutting.proofs.Retiring.{retire_fits}
-use borrow.Author.Tests.{not-true, not-false}
 use Rattle.transfers.specs.Retiring.{in_retire_one}
 use Rattle.transfers.proofs.Armings.{pos}
 use Rattle.transfers.proofs.retiring.in_retire.Goals as goal

@@ -1,5 +1,4 @@
 -- `request_good` is `request_good`. Assumes nothing.
-use borrow.Author.Tests.{not-true, not-false}
 use Rattle.std.proofs.Common.{sym, ◌∙◌}
 use Rattle.transfers.proofs.state.request_good.Goals as goal
 

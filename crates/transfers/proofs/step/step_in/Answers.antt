@@ -1,6 +1,5 @@
 -- `step_in` is `step_of`: the checks in their order, then the step. Assumes nothing.
 use Rattle.std.proofs.Common.{sym, refl, ◌∙◌, eq-eqb, ne_eqb}
-use borrow.Author.Tests.{not-true, not-false}
 use Rattle.transfers.proofs.Logs.{nothing}
 use Rattle.transfers.proofs.Telling.{telling}
 use Rattle.transfers.specs.Calls.{step_of}

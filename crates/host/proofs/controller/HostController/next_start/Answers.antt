@@ -1,7 +1,7 @@
 -- `HostController::next_start` is `next_start`, test by test. Assumes nothing.
 use mathlib.Core.Path.{refl, sym, ap, ◌∙◌}
 use mathlib.Core.Bool.{Bool}
-use borrow.Author.Tests.{le-leb, lt-leb, not-true, not-false}
+use borrow.Author.Tests.{le-leb, lt-leb}
 use Rattle.dispatcher.specs.Dispatcher as T
 use Rattle.host.proofs.Next.{next_nobody, next_absent, next_small, next_refused, next_ready}
 use Rattle.host.proofs.controller.HostController.next_start.Goals as goal

@@ -1,6 +1,6 @@
 -- `HostController::start_bulk_in` is `start_of` of a bulk IN: four refusals, and the begin. Assumes nothing.
 use mathlib.Core.Path.{refl, sym, ◌∙◌}
-use borrow.Author.Tests.{eq-eqb, ne_eqb, not-true, not-false}
+use borrow.Author.Tests.{eq-eqb, ne_eqb}
 use Rattle.host.specs.declared.fields.Fields.TheVariants.{BulkIn}
 use Rattle.host.specs.Start.{bulk_in}
 use Rattle.host.proofs.Next.{not_bulk_in}

@@ -1,6 +1,6 @@
 -- `HostController::start_control` is `start_of` of a control: four refusals, and the begin. Assumes nothing.
 use mathlib.Core.Path.{refl, sym, ◌∙◌}
-use borrow.Author.Tests.{eq-eqb, ne_eqb, not-true, not-false}
+use borrow.Author.Tests.{eq-eqb, ne_eqb}
 use Rattle.host.specs.declared.fields.Fields.TheVariants.{Control}
 use Rattle.host.specs.Start.{control}
 use Rattle.host.proofs.Next.{not_control}
