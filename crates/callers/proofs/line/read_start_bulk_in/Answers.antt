@@ -1,0 +1,29 @@
+-- `read_start_bulk_in` is `start_bulk_in_of`, field by field.
+-- Assumes nothing.
+use mathlib.Core.Path.{sym, ◌∙◌}
+use borrow.Author.Tests.{eq-eqb, ne_eqb}
+use Rattle.callers.specs.Lines.{start_bulk_in_of}
+use Rattle.callers.proofs.line.read_start_bulk_in.Goals as goal
+
+pub returns-then-fields-ne2 : goal.returns-then-fields-ne2
+unfolding start_bulk_in_of
+returns-then-fields-ne2 c =
+    let if1 = c.if-fields-ne2.true in
+    let fields = c.fields in
+    simp (ne_eqb _ _ (λ e. if1 (fields.ensures ∙ e)))
+
+pub returns-in_default : goal.returns-in_default
+unfolding start_bulk_in_of
+returns-in_default c =
+    let length_at = c.length_at-f1 in
+    let if1 = c.if-fields-ne2.false in
+    let fields = c.fields in
+    simp (eq-eqb _ _ (sym fields.ensures ∙ if1), sym length_at.ensures ∙ c.in_default.is)
+
+pub returns : goal.returns
+unfolding start_bulk_in_of
+returns c =
+    let length_at = c.length_at-f1 in
+    let if1 = c.if-fields-ne2.false in
+    let fields = c.fields in
+    simp (eq-eqb _ _ (sym fields.ensures ∙ if1), sym length_at.ensures ∙ c.in-Some.is)
