@@ -1,5 +1,7 @@
 // What the workloads left: the counts, and a number for each of the buffer, packet memory and the log.
-use libc::STDOUT_FILENO;
+use printing::{print_decimal, print_text};
+use std::io;
+use std::io::Write;
 use transfers::answers::StepAnswer;
 
 #[derive(Clone, Copy)]
@@ -31,20 +33,16 @@ fn mixed_byte(sum: u64, x: u8) -> u64 {
 
 fn sum_bytes(bytes: &[u8]) -> u64 {
     let mut sum: u64 = 0;
-    let mut i: usize = 0;
-    while i < bytes.len() {
-        sum = mixed_byte(sum, bytes[i]);
-        i += 1;
+    for x in bytes {
+        sum = mixed_byte(sum, *x);
     }
     sum
 }
 
 fn sum_words(words: &[u32]) -> u64 {
     let mut sum: u64 = 0;
-    let mut i: usize = 0;
-    while i < words.len() {
-        sum = mixed(sum, words[i]);
-        i += 1;
+    for x in words {
+        sum = mixed(sum, *x);
     }
     sum
 }
@@ -58,15 +56,15 @@ pub fn sum_all(count: u64, buf: &[u8], pm: &[u8], log: &[u32]) -> Sums {
     }
 }
 
-fn item(text: &[u8], n: u64) {
-    io::write_all(STDOUT_FILENO, text);
-    io::print_decimal(STDOUT_FILENO, n);
+fn item<W: Write>(out: &mut W, text: &[u8], n: u64) -> io::Result<()> {
+    print_text(out, text)?;
+    print_decimal(out, n)
 }
 
-pub fn print_sums(l: Sums) {
-    item(b"count ", l.count);
-    item(b" buffer ", l.buffer);
-    item(b" memory ", l.memory);
-    item(b" log ", l.log);
-    io::write_all(STDOUT_FILENO, b"\n");
+pub fn print_sums<W: Write>(out: &mut W, l: Sums) -> io::Result<()> {
+    item(out, b"count ", l.count)?;
+    item(out, b" buffer ", l.buffer)?;
+    item(out, b" memory ", l.memory)?;
+    item(out, b" log ", l.log)?;
+    print_text(out, b"\n")
 }

@@ -1,5 +1,5 @@
 // A length cut to what is lent.
-ghost use Rattle.io.specs.Counts.{IsPrefixLen};
+ghost use Rattle.std.specs.Counts.{IsPrefixLen};
 
 // `n`, or the length of the bytes where that is less.
 pub fn within(n: usize, s: &[u8]) -> usize

@@ -1,5 +1,7 @@
 // States that are put together by hand, and what the calls answer to them.
-use libc::STDOUT_FILENO;
+use printing::{print_decimal, print_text};
+use std::io;
+use std::io::Write;
 use transfers::answers::{CancelAnswer, StepAnswer};
 use transfers::control::Stepped;
 use transfers::driver::{
@@ -88,55 +90,62 @@ pub(crate) fn driver(t: Transfer) -> Driver {
     }
 }
 
-pub(crate) fn print_refusal(why: Refusal) {
-    io::write_all(STDOUT_FILENO, b" ");
-    io::print_decimal(STDOUT_FILENO, number(why) as u64);
+pub(crate) fn print_refusal<W: Write>(out: &mut W, why: Refusal) -> io::Result<()> {
+    print_text(out, b" ")?;
+    print_decimal(out, number(why) as u64)
 }
 
-fn print_step(p: Stepped) {
+fn print_step<W: Write>(out: &mut W, p: Stepped) -> io::Result<()> {
     let answer = p.answer;
     match answer {
-        StepAnswer::Waiting(_) => {
-            io::write_all(STDOUT_FILENO, b" waiting");
-        }
+        StepAnswer::Waiting(_) => print_text(out, b" waiting"),
         StepAnswer::Done(count) => {
-            io::write_all(STDOUT_FILENO, b" done ");
-            io::print_decimal(STDOUT_FILENO, count as u64);
+            print_text(out, b" done ")?;
+            print_decimal(out, count as u64)
         }
-        StepAnswer::Refused(why) => print_refusal(why),
+        StepAnswer::Refused(why) => print_refusal(out, why),
     }
 }
 
-fn print_cancel(t: Transfer) {
+fn print_cancel<W: Write>(out: &mut W, t: Transfer) -> io::Result<()> {
     let d = driver(t).cancel();
     let answer = d.answer;
     match answer {
-        CancelAnswer::Cancelled => {
-            io::write_all(STDOUT_FILENO, b" cancelled");
-        }
-        CancelAnswer::Refused(why) => print_refusal(why),
+        CancelAnswer::Cancelled => print_text(out, b" cancelled"),
+        CancelAnswer::Refused(why) => print_refusal(out, why),
     }
 }
 
 // What `step_in`, `step_out` and `cancel` answer, each on this state.
-pub(crate) fn sampled(name: &[u8], what: &[u8], t: Transfer, sample: Sample) {
+pub(crate) fn sampled<W: Write>(
+    out: &mut W,
+    name: &[u8],
+    what: &[u8],
+    t: Transfer,
+    sample: Sample,
+) -> io::Result<()> {
     let mut buf = [0u8; 4];
     let mut pm = [0u8; 4096];
     let mut log = [0u32; 192];
-    io::write_all(STDOUT_FILENO, name);
-    io::write_all(STDOUT_FILENO, what);
-    print_step(driver(t).step_in(sample, &mut buf, &mut pm, &mut log));
-    print_step(driver(t).step_out(sample, &buf, &mut pm, &mut log));
-    print_cancel(t);
-    io::write_all(STDOUT_FILENO, b"\n");
+    print_text(out, name)?;
+    print_text(out, what)?;
+    print_step(out, driver(t).step_in(sample, &mut buf, &mut pm, &mut log))?;
+    print_step(out, driver(t).step_out(sample, &buf, &mut pm, &mut log))?;
+    print_cancel(out, t)?;
+    print_text(out, b"\n")
 }
 
 // With nothing raised, a step that is not refused waits.
-pub(crate) fn state(name: &[u8], what: &[u8], t: Transfer) {
+pub(crate) fn state<W: Write>(
+    out: &mut W,
+    name: &[u8],
+    what: &[u8],
+    t: Transfer,
+) -> io::Result<()> {
     let quiet = Sample {
         status: 0,
         intr: 0,
         buffers: 0,
     };
-    sampled(name, what, t, quiet);
+    sampled(out, name, what, t, quiet)
 }

@@ -7,7 +7,9 @@ use host::answers::{StartAnswer, TurnAnswer};
 use host::controller::{HostController, TurnResult};
 use host::fields::{BulkFields, ControlFields, Fields, Submission};
 use host::start::StartResult;
-use libc::STDOUT_FILENO;
+use printing::{print_decimal, print_text};
+use std::io;
+use std::io::Write;
 use transfers::driver::Transfer;
 use transfers::host_controller::{DataPhase, TransferExtras};
 use transfers::wire::SetupPacket;
@@ -19,24 +21,22 @@ pub(crate) struct Came {
     pub requested: usize,
 }
 
-fn print_look(r: TurnResult) {
+fn print_look<W: Write>(out: &mut W, r: TurnResult) -> io::Result<()> {
     let answer = r.answer;
     match answer {
         TurnAnswer::Turn(c) => {
-            io::write_all(STDOUT_FILENO, b" turn ");
-            io::print_decimal(STDOUT_FILENO, c as u64);
+            print_text(out, b" turn ")?;
+            print_decimal(out, c as u64)
         }
-        TurnAnswer::Nobody => {
-            io::write_all(STDOUT_FILENO, b" nobody");
-        }
+        TurnAnswer::Nobody => print_text(out, b" nobody"),
     }
 }
 
-fn print_kept(kept: bool) {
+fn print_kept<W: Write>(out: &mut W, kept: bool) -> io::Result<()> {
     if kept {
-        io::write_all(STDOUT_FILENO, b" kept");
+        print_text(out, b" kept")
     } else {
-        io::write_all(STDOUT_FILENO, b" changed");
+        print_text(out, b" changed")
     }
 }
 
@@ -50,37 +50,44 @@ fn spent(h: HostController, c: u8) -> u32 {
     d.used[i]
 }
 
-fn print_started(next: HostController, c: u8) {
-    io::write_all(STDOUT_FILENO, b" started ");
-    io::print_decimal(STDOUT_FILENO, c as u64);
-    io::write_all(STDOUT_FILENO, b" spent ");
-    io::print_decimal(STDOUT_FILENO, spent(next, c) as u64);
+fn print_started<W: Write>(out: &mut W, next: HostController, c: u8) -> io::Result<()> {
+    print_text(out, b" started ")?;
+    print_decimal(out, c as u64)?;
+    print_text(out, b" spent ")?;
+    print_decimal(out, spent(next, c) as u64)
 }
 
 // A start is charged; a refused one leaves the state as it was.
-fn print_start(before: HostController, r: StartResult) {
+fn print_start<W: Write>(out: &mut W, before: HostController, r: StartResult) -> io::Result<()> {
     let answer = r.answer;
     let next = r.next;
     match answer {
-        StartAnswer::Started(c) => print_started(next, c),
+        StartAnswer::Started(c) => print_started(out, next, c),
         StartAnswer::Refused(why) => {
-            print_refusal(why);
-            print_kept(is_kept(before, next));
+            print_refusal(out, why)?;
+            print_kept(out, is_kept(before, next))
         }
     }
 }
 
 // What a look, `start_control`, `start_bulk_in` and `start_bulk_out` answer, each on this state.
-pub(crate) fn state(name: &[u8], what: &[u8], h: HostController, frame: u32, buf: &[u8]) {
+pub(crate) fn state<W: Write>(
+    out: &mut W,
+    name: &[u8],
+    what: &[u8],
+    h: HostController,
+    frame: u32,
+    buf: &[u8],
+) -> io::Result<()> {
     let mut pm = [0u8; 4096];
     let mut log = [0u32; 192];
-    io::write_all(STDOUT_FILENO, name);
-    io::write_all(STDOUT_FILENO, what);
-    print_look(h.whose_turn(frame));
-    print_start(h, h.start_control(frame, buf, &pm, &mut log));
-    print_start(h, h.start_bulk_in(frame, buf, &pm, &mut log));
-    print_start(h, h.start_bulk_out(frame, buf, &mut pm, &mut log));
-    io::write_all(STDOUT_FILENO, b"\n");
+    print_text(out, name)?;
+    print_text(out, what)?;
+    print_look(out, h.whose_turn(frame))?;
+    print_start(out, h, h.start_control(frame, buf, &pm, &mut log))?;
+    print_start(out, h, h.start_bulk_in(frame, buf, &pm, &mut log))?;
+    print_start(out, h, h.start_bulk_out(frame, buf, &mut pm, &mut log))?;
+    print_text(out, b"\n")
 }
 
 pub(crate) fn control_of(address: u8, size: u8, wLength: u16, length: usize) -> Came {
