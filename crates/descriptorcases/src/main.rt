@@ -2,7 +2,11 @@
 #![tactic(auto)]
 
 use cases::{Kind, print_cases};
+use std::io;
+use std::io::{BufWriter, Write};
 
-fn main() {
-    print_cases(Kind::Configurations);
+fn main(rt: HostRuntime) -> io::Result<()> {
+    let mut out = BufWriter::new(rt.alloc(), rt.stdout())?;
+    print_cases(&mut rt.stdin(), &mut out, Kind::Configurations)?;
+    out.flush()
 }

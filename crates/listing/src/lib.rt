@@ -13,38 +13,42 @@ use record::items::{BulkItem, ControlItem, Cursor, ItemAnswer, first, item};
 use record::look::version;
 use record::reader::{CheckAnswer, check};
 use record::refusal::{Refusal, number};
+use std::io;
+use std::io::Write;
 
-fn print_bytes(bytes: &[u8]) {
-    for i in 0..bytes.len() {
-        print_byte(bytes[i]);
+fn print_bytes<W: Write>(out: &mut W, bytes: &[u8]) -> io::Result<()> {
+    for b in bytes {
+        print_byte(out, *b)?;
     }
+    Ok(())
 }
 
 // The eight bytes of a SETUP.
-fn print_setup(s: &[u8], at: usize) {
+fn print_setup<W: Write>(out: &mut W, s: &[u8], at: usize) -> io::Result<()> {
     if at <= s.len() {
         if 8 <= s.len() - at {
-            print_bytes(&s[at..at + 8]);
+            print_bytes(out, &s[at..at + 8])?;
         }
     }
+    Ok(())
 }
 
-fn print_control(s: &[u8], c: ControlItem) {
-    print_text(b"control");
-    print_number(c.address as usize);
-    print_text(b" ");
-    print_setup(s, c.setup);
-    print_number(c.count);
-    print_text(b"\n");
+fn print_control<W: Write>(out: &mut W, s: &[u8], c: ControlItem) -> io::Result<()> {
+    print_text(out, b"control")?;
+    print_number(out, c.address as usize)?;
+    print_text(out, b" ")?;
+    print_setup(out, s, c.setup)?;
+    print_number(out, c.count)?;
+    print_text(out, b"\n")
 }
 
-fn print_bulk(b: BulkItem) {
-    print_text(b"bulk");
-    print_number(b.address as usize);
-    print_number(b.endpoint as usize);
-    print_number(b.pid as usize);
-    print_number(b.count);
-    print_text(b"\n");
+fn print_bulk<W: Write>(out: &mut W, b: BulkItem) -> io::Result<()> {
+    print_text(out, b"bulk")?;
+    print_number(out, b.address as usize)?;
+    print_number(out, b.endpoint as usize)?;
+    print_number(out, b.pid as usize)?;
+    print_number(out, b.count)?;
+    print_text(out, b"\n")
 }
 
 // The next cursor, or no more items.
@@ -55,46 +59,47 @@ enum Turn {
 }
 
 // The item at a cursor, if it didn't fail.
-fn print_item(s: &[u8], cursor: Cursor) -> Turn {
+fn print_item<W: Write>(out: &mut W, s: &[u8], cursor: Cursor) -> io::Result<Turn> {
     let answer = item(s, cursor);
     match answer {
         ItemAnswer::Control(c) => {
-            print_control(s, c);
+            print_control(out, s, c)?;
             let next = c.next;
-            Turn::More(next)
+            Ok(Turn::More(next))
         }
         ItemAnswer::Bulk(b) => {
-            print_bulk(b);
+            print_bulk(out, b)?;
             let next = b.next;
-            Turn::More(next)
+            Ok(Turn::More(next))
         }
-        ItemAnswer::Failed(next) => Turn::More(next),
-        ItemAnswer::End => Turn::Ended,
+        ItemAnswer::Failed(next) => Ok(Turn::More(next)),
+        ItemAnswer::End => Ok(Turn::Ended),
     }
 }
 
 // The items up to the end. Each has at least one byte in the record, so as many items as bytes are enough.
-fn print_items(s: &[u8]) {
+fn print_items<W: Write>(out: &mut W, s: &[u8]) -> io::Result<()> {
     let mut cursor = first();
     for _ in 0..s.len() {
-        let turn = print_item(s, cursor);
+        let turn = print_item(out, s, cursor)?;
         match turn {
             Turn::More(next) => {
                 cursor = next;
             }
             Turn::Ended => {
-                return;
+                return Ok(());
             }
         }
     }
+    Ok(())
 }
 
-fn print_transfers(s: &[u8], count: usize) {
-    print_text(b"WLG");
-    print_number(version(s) as usize);
-    print_text(b"\n");
-    print_items(s);
-    print_end(count);
+fn print_transfers<W: Write>(out: &mut W, s: &[u8], count: usize) -> io::Result<()> {
+    print_text(out, b"WLG")?;
+    print_number(out, version(s) as usize)?;
+    print_text(out, b"\n")?;
+    print_items(out, s)?;
+    print_end(out, count)
 }
 
 // "a record of at most 65,536 bytes .. 21 if the input is longer": else what the reader answers.
@@ -109,10 +114,10 @@ fn limited(s: &[u8]) -> CheckAnswer
 }
 
 // Lists a record's transfers, or says why it is refused.
-pub fn print_record(s: &[u8]) {
+pub fn print_record<W: Write>(out: &mut W, s: &[u8]) -> io::Result<()> {
     let answer = limited(s);
     match answer {
-        CheckAnswer::Refused(refusal) => print_refused(number(refusal)),
-        CheckAnswer::Transfers(count) => print_transfers(s, count),
+        CheckAnswer::Refused(refusal) => print_refused(out, number(refusal)),
+        CheckAnswer::Transfers(count) => print_transfers(out, s, count),
     }
 }

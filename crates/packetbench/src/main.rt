@@ -2,8 +2,11 @@
 #![tactic(auto)]
 
 use export::{ExportAnswer, export};
-use libc::{STDIN_FILENO, STDOUT_FILENO};
+use input::read_full;
 use packet::crc::crc16;
+use printing::{print_decimal, print_text};
+use std::io;
+use std::io::{BufWriter, Write};
 
 // Byte i of a record of version 2 whose entries are OUT packets of 64 bytes, each a group.
 fn record_byte(i: usize) -> u8 {
@@ -31,10 +34,8 @@ fn entry_byte(place: usize, i: usize) -> u8 {
 }
 
 fn fill(bytes: &mut [u8]) {
-    let mut i: usize = 0;
-    while i < bytes.len() {
+    for i in 0..bytes.len() {
         bytes[i] = record_byte(i);
-        i += 1;
     }
 }
 
@@ -54,13 +55,15 @@ fn run(letter: u8, record: &[u8], out: &mut [u8]) -> usize {
     }
 }
 
-fn main() {
+fn main(rt: HostRuntime) -> io::Result<()> {
     let mut letter = [0u8; 1];
     let mut record = [0u8; 65455];
     let mut out = [0u8; 131072];
     fill(&mut record);
-    io::read_full(STDIN_FILENO, &mut letter);
+    read_full(&mut rt.stdin(), &mut letter)?;
     let left = run(letter[0], &record, &mut out);
-    io::print_decimal(STDOUT_FILENO, left as u64);
-    io::write_all(STDOUT_FILENO, b"\n");
+    let mut out = BufWriter::new(rt.alloc(), rt.stdout())?;
+    print_decimal(&mut out, left as u64)?;
+    print_text(&mut out, b"\n")?;
+    out.flush()
 }
