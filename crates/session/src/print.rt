@@ -12,7 +12,7 @@ pub fn flush_rest<W: Write>(to: &mut W, out: &[u8; 1048576], at: usize) -> io::R
     to.write_all(&out[..n])
 }
 
-// After a block: an output that is long enough is written out. There is room for the longest block, of less than 970,000 bytes, behind one that isn't.
+// After a block: an output that is long enough is written out. Any block has less than 970,000 bytes, so that the next one has room.
 pub fn flush_long<W: Write>(to: &mut W, out: &[u8; 1048576], at: usize) -> io::Result<usize> {
     if at < 65536 {
         return Ok(at);
