@@ -6,10 +6,14 @@ use script::text::{put, put_decimal, put_hex};
 use std::io;
 use std::io::Write;
 
-// What has been put is written out.
-pub fn flush_rest<W: Write>(to: &mut W, out: &[u8; 1048576], at: usize) -> io::Result<()> {
+fn flush<W: Write>(to: &mut W, out: &[u8], at: usize) -> io::Result<()> {
     let n = within(at, out);
     to.write_all(&out[..n])
+}
+
+// What is left at the end.
+pub fn flush_rest<W: Write>(to: &mut W, out: &[u8; 1048576], at: usize) -> io::Result<()> {
+    flush(to, out, at)
 }
 
 // After a block: an output that is long enough is written out. Any block has less than 970,000 bytes, so that the next one has room.
@@ -17,7 +21,7 @@ pub fn flush_long<W: Write>(to: &mut W, out: &[u8; 1048576], at: usize) -> io::R
     if at < 65536 {
         return Ok(at);
     }
-    flush_rest(to, out, at)?;
+    flush(to, out, at)?;
     Ok(0)
 }
 
