@@ -3,12 +3,13 @@
 
 use capture::{Form, print_capture};
 use descriptorlisting::print_configuration;
-use input::{first, read_full};
+use input::first;
 use listing::print_record;
 use printing::print_text;
 use script::bytes::{OptionCount, bytes};
 use script::field::end_of;
 use script::line::is_skipped;
+use std::alloc::Global;
 use std::io;
 use std::io::{Read, Write};
 
@@ -70,13 +71,18 @@ fn print_lines<W: Write>(
     Ok(())
 }
 
-// A text that fills its room is too long.
-pub fn print_cases<R: Read, W: Write>(input: &mut R, out: &mut W, kind: Kind) -> io::Result<()> {
-    let mut text = [0u8; 600000];
-    let mut room = [0u8; 131072];
-    let n = read_full(input, &mut text)?;
-    if n == 600000 {
+// A text of as many bytes as are read at most is too long.
+pub fn print_cases<R: Read, W: Write>(
+    alloc: Global,
+    input: &mut R,
+    out: &mut W,
+    kind: Kind,
+) -> io::Result<()> {
+    let mut text = Vec::new(alloc);
+    input.by_ref().take(600000).read_to_end(&mut text)?;
+    if text.len() == 600000 {
         return print_text(out, b"too long\n");
     }
-    print_lines(out, kind, first(&text, n), &mut room)
+    let mut room = [0u8; 131072];
+    print_lines(out, kind, &text, &mut room)
 }

@@ -7,6 +7,6 @@ use std::io::{BufWriter, Write};
 
 fn main(rt: HostRuntime) -> io::Result<()> {
     let mut out = BufWriter::new(rt.alloc(), rt.stdout())?;
-    print_cases(&mut rt.stdin(), &mut out, Kind::Records)?;
+    print_cases(rt.alloc(), &mut rt.stdin(), &mut out, Kind::Records)?;
     out.flush()
 }
