@@ -1,4 +1,4 @@
-// Lists many inputs, the cases: standard input has one a line, as the replay script's BYTES. Empty lines and lines that begin with # are skipped.
+// Lists many inputs, the cases: the input has one a line, as the replay script's BYTES. Empty lines and lines that begin with # are skipped.
 #![tactic(auto)]
 
 use capture::{Form, print_capture};

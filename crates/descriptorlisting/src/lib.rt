@@ -1,4 +1,4 @@
-// The descriptors of a configuration on standard output, one a line.
+// The descriptors of a configuration, printed one a line.
 #![tactic(auto)]
 
 ghost use Rattle.std.specs.Prelude.{◌≡◌, ◌≤◌, length, IfOk};

@@ -1,4 +1,4 @@
-// A record's listing on standard output, as document 01 shows it.
+// A record's listing, as document 01 shows it.
 #![tactic(auto)]
 
 ghost use Rattle.std.specs.Prelude.{◌≡◌, ◌≤◌, ◌<◌, length};
