@@ -3,13 +3,12 @@
 
 use capture::{Form, print_capture};
 use descriptorlisting::print_configuration;
-use input::first;
+use input::{first, read_full};
 use listing::print_record;
 use printing::print_text;
 use script::bytes::{OptionCount, bytes};
 use script::field::end_of;
 use script::line::is_skipped;
-use std::alloc::Global;
 use std::io;
 use std::io::{Read, Write};
 
@@ -71,18 +70,27 @@ fn print_lines<W: Write>(
     Ok(())
 }
 
-// A text of as many bytes as are read at most is too long.
-pub fn print_cases<R: Read, W: Write>(
-    alloc: Global,
-    input: &mut R,
+fn read_text<R: Read>(input: &mut R, text: &mut [u8; 600000]) -> io::Result<usize> {
+    read_full(input, text)
+}
+
+// A text that fills its room is too long.
+fn print_first<W: Write>(
     out: &mut W,
     kind: Kind,
+    text: &[u8; 600000],
+    n: usize,
+    room: &mut [u8; 131072],
 ) -> io::Result<()> {
-    let mut text = Vec::new(alloc);
-    input.by_ref().take(600000).read_to_end(&mut text)?;
-    if text.len() == 600000 {
+    if n == 600000 {
         return print_text(out, b"too long\n");
     }
+    print_lines(out, kind, first(text, n), room)
+}
+
+pub fn print_cases<R: Read, W: Write>(input: &mut R, out: &mut W, kind: Kind) -> io::Result<()> {
+    let mut text = [0u8; 600000];
     let mut room = [0u8; 131072];
-    print_lines(out, kind, &text, &mut room)
+    let n = read_text(input, &mut text)?;
+    print_first(out, kind, &text, n, &mut room)
 }

@@ -5,9 +5,10 @@ use mathlib.Core.List.{List}
 use Prim.Native.Nat.{ℕ, ◌+◌, ◌≤◌}
 use native.Mathlib.Omega.{arith}
 use lib.ListN.{length}
+use Rattle.descriptor.specs.declared.refusal.Refusal.{Refusal}
 use Rattle.descriptor.specs.declared.walk.Endpoint.{Endpoint as EndpointThere}
 use Rattle.descriptor.specs.declared.walk.WalkAnswer.{WalkAnswer}
-use Rattle.descriptor.specs.declared.walk.WalkAnswer.TheVariants.{Descriptor, Endpoint}
+use Rattle.descriptor.specs.declared.walk.WalkAnswer.TheVariants.{Descriptor, Endpoint, End, Refused}
 use Rattle.descriptor.specs.Walk.{Walked, descriptor, endpoint, end, refused, walk_of, part_of}
 use Rattle.descriptor.specs.Whole.{Hands, Last}
 use Rattle.descriptor.proofs.Walking.{handed, inside, turned}
@@ -44,6 +45,14 @@ on_descriptor b at r part d e p = onward b at part p (found_descriptor b at r d 
 -- Where it is an endpoint.
 pub on_endpoint : (b : List ℕ) (at : ℕ) (r : WalkAnswer) (part : List ℕ) (x : EndpointThere) → r ≡ Endpoint x → Right b at r → part ≡ part_of (walk_of b at) → Onward b at part
 on_endpoint b at r part x d e p = onward b at part p (found_endpoint b at r x d e)
+
+-- Where it is the end.
+pub at_end : (b : List ℕ) (at : ℕ) (r : WalkAnswer) → r ≡ End → Right b at r → Ended ≡ turn_of at (walk_of b at)
+at_end b at r d e = ap (turn_of at) (subst (Right b at) d e)
+
+-- Where it is a refusal.
+pub at_refusal : (b : List ℕ) (at : ℕ) (r : WalkAnswer) (why : Refusal) → r ≡ Refused why → Right b at r → Ended ≡ turn_of at (walk_of b at)
+at_refusal b at r why d e = ap (turn_of at) (subst (Right b at) d e)
 
 -- ---- the next position
 

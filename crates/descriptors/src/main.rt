@@ -4,12 +4,10 @@
 use descriptorlisting::print_configuration;
 use input::{first, read_input};
 use std::io;
-use std::io::{BufWriter, Write};
 
 fn main(rt: HostRuntime) -> io::Result<()> {
     let mut room = [0u8; 65537];
     let n = read_input(&mut rt.stdin(), &mut room)?;
-    let mut out = BufWriter::new(rt.alloc(), rt.stdout())?;
-    print_configuration(&mut out, first(&room, n))?;
-    out.flush()
+    let mut out = rt.stdout();
+    print_configuration(&mut out, first(&room, n))
 }

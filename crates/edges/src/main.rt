@@ -15,7 +15,7 @@ use pool::async_pool::{Pool, PoolIndex};
 use pool::bitset::BitSet;
 use printing::{print_decimal, print_text};
 use std::io;
-use std::io::{BufWriter, Write};
+use std::io::Write;
 
 fn print<W: Write>(out: &mut W, text: &[u8], n: u64) -> io::Result<()> {
     print_text(out, text)?;
@@ -85,7 +85,6 @@ fn print_all<W: Write>(out: &mut W) -> io::Result<()> {
 }
 
 fn main(rt: HostRuntime) -> io::Result<()> {
-    let mut out = BufWriter::new(rt.alloc(), rt.stdout())?;
-    print_all(&mut out)?;
-    out.flush()
+    let mut out = rt.stdout();
+    print_all(&mut out)
 }

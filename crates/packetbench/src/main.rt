@@ -6,7 +6,6 @@ use input::read_full;
 use packet::crc::crc16;
 use printing::{print_decimal, print_text};
 use std::io;
-use std::io::{BufWriter, Write};
 
 // Byte i of a record of version 2 whose entries are OUT packets of 64 bytes, each a group.
 fn record_byte(i: usize) -> u8 {
@@ -62,8 +61,7 @@ fn main(rt: HostRuntime) -> io::Result<()> {
     fill(&mut record);
     read_full(&mut rt.stdin(), &mut letter)?;
     let left = run(letter[0], &record, &mut out);
-    let mut out = BufWriter::new(rt.alloc(), rt.stdout())?;
+    let mut out = rt.stdout();
     print_decimal(&mut out, left as u64)?;
-    print_text(&mut out, b"\n")?;
-    out.flush()
+    print_text(&mut out, b"\n")
 }

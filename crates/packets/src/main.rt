@@ -10,7 +10,7 @@ use input::{first, is_too_long, read_input};
 use printing::{print_refused, print_unreadable};
 use script::field::end_of;
 use std::io;
-use std::io::{BufWriter, Write};
+use std::io::Write;
 
 // Answers one line, and says how many bytes are lent to the lines after it.
 fn take_command<W: Write>(
@@ -63,7 +63,6 @@ fn main(rt: HostRuntime) -> io::Result<()> {
     let mut room = [0u8; 65537];
     let mut bytes = [0u8; 131072];
     let n = read_input(&mut rt.stdin(), &mut room)?;
-    let mut out = BufWriter::new(rt.alloc(), rt.stdout())?;
-    answer_input(&mut out, first(&room, n), &mut bytes)?;
-    out.flush()
+    let mut out = rt.stdout();
+    answer_input(&mut out, first(&room, n), &mut bytes)
 }

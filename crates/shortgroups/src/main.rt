@@ -13,7 +13,7 @@ use printing::{
 };
 use script::field::end_of;
 use std::io;
-use std::io::{BufWriter, Write};
+use std::io::Write;
 
 fn print_count<W: Write>(out: &mut W, n: u8) -> io::Result<()> {
     print_decimal(out, n as u64)
@@ -97,11 +97,10 @@ fn main(rt: HostRuntime) -> io::Result<()> {
     let mut room = [0u8; 65537];
     let n = read_input(&mut rt.stdin(), &mut room)?;
     let text = first(&room, n);
-    let mut out = BufWriter::new(rt.alloc(), rt.stdout())?;
+    let mut out = rt.stdout();
     if is_too_long(text) {
-        print_refused(&mut out, 21)?;
+        print_refused(&mut out, 21)
     } else {
-        answer_lines(&mut out, text)?;
+        answer_lines(&mut out, text)
     }
-    out.flush()
 }
