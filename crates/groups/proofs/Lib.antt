@@ -4,3 +4,4 @@ pub mod Shapes
 pub mod Grammar
 pub mod Table
 pub mod ShortGroups
+pub mod Above

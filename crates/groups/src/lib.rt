@@ -62,6 +62,7 @@ fn put_first(list: &[u8], k: usize, out: &mut [u8])
 }
 
 // Lists the groups of at most n bytes, from the first lent byte on.
+#[tactic(auto, using(crate::proofs::Above::above_limit))]
 pub fn short_groups(n: u8, out: &mut [u8]) -> GroupsAnswer
     ensures { Listed n out.old result out.new }
 {

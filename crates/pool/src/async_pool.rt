@@ -63,7 +63,8 @@ impl Pool {
                 index: OptionIndex::None,
             };
         };
-        if self.total <= n {
+        let full = self.total <= n;
+        if full {
             return Allocated {
                 pool: self,
                 index: OptionIndex::None,

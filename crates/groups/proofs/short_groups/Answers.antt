@@ -14,12 +14,6 @@ use Rattle.groups.proofs.short_groups.Goals as goal
 first_is : (n k : ℕ) → n ≤ 6 → k ≡ length (list_bytes n) → take k (list_bytes 6) ≡ list_bytes n
 first_is n k h e = ap (λ (i : ℕ). take i (list_bytes 6)) e ∙ is_prefix n h
 
-pub returns-then-n-gt-MAX_LIMIT : goal.returns-then-n-gt-MAX_LIMIT
-returns-then-n-gt-MAX_LIMIT c =
-    let a = c.args in
-    let above : 6 < a.n = omega (arith, c.if-n-gt-MAX_LIMIT.true) in
-    record { answer = rw (lt-leb _ _ above); bytes = rw (lt-leb _ _ above) }
-
 pub returns-then-out-k : goal.returns-then-out-k
 returns-then-out-k c =
     let a = c.args in

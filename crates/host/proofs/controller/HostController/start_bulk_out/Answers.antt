@@ -1,5 +1,6 @@
 -- `HostController::start_bulk_out` is `start_of` of a bulk OUT: four refusals, and the begin. Assumes nothing.
 use mathlib.Core.Path.{refl, sym, ◌∙◌}
+use borrow.Author.Rules.{rules}
 use borrow.Author.Tests.{eq-eqb, ne_eqb}
 use Rattle.host.specs.declared.fields.Fields.TheVariants.{BulkOut}
 use Rattle.host.specs.Start.{bulk_out}
@@ -37,7 +38,7 @@ returns-in_default-x c =
     let refuse-start3 = c.refuse_start-in_default-x in
     let lent = sym lent-fits.ensures ∙ if1 in
     start_other args.self bulk_out args.frame args.buf.now args.pm.now args.log.now observed.result next_start.result c.in-Ready.n c.in-Ready.n.fields _ lent observed.ensures next_start.ensures
-    c.in-Ready.is refl (not_bulk_out c.in-Ready.n.fields c.in_default-x.not-BulkOut) refuse-start3.ensures
+    c.in-Ready.is refl (not_bulk_out c.in-Ready.n.fields (search rules)) refuse-start3.ensures
 
 pub returns-then-buf-y : goal.returns-then-buf-y
 returns-then-buf-y c =

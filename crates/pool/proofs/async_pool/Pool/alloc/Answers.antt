@@ -19,9 +19,9 @@ returns-in_default c =
     let none = option_none low (sym (ap (λ t. t.number) taken) ∙ c.in_default.is) in
     simp (le-ltb low (min p.total 32) (omega arith))
 
-pub returns-then-self-n : goal.returns-then-self-n
+pub returns-then-full : goal.returns-then-full
 unfolding alloc_of set_any_of
-returns-then-self-n c =
+returns-then-full c =
     let p = c.args.self in
     let low = lowest_out p.allocated.0 in
     let taken = c.set_any-taken.ensures in
