@@ -16,6 +16,7 @@ use std::io;
 use transfers::driver::DeskRule;
 
 // A proved loop has to end, and nothing says that the input does: it counts down from a number that no run uses up.
+// Where a read fails, the answers to the lines before it are written out first.
 fn main(rt: HostRuntime) -> io::Result<()> {
     let mut chunk = [0u8; 65536];
     let mut line = [0u8; 300000];
@@ -34,7 +35,16 @@ fn main(rt: HostRuntime) -> io::Result<()> {
     let mut place = start();
     let mut turns = u64::MAX;
     while turns > 0 && !place.ended {
-        place = turn(place, &mut input, &mut chunk, &mut line)?;
+        let read = turn(place, &mut input, &mut chunk, &mut line);
+        match read {
+            Ok(next) => {
+                place = next;
+            }
+            Err(failed) => {
+                flush_rest(&mut to, &out, s.session.at)?;
+                return Err(failed);
+            }
+        }
         if place.whole {
             s = play(
                 s,

@@ -12,12 +12,20 @@ fn flush<W: Write>(to: &mut W, out: &[u8], at: usize) -> io::Result<()> {
 }
 
 // What is left at the end.
-pub fn flush_rest<W: Write>(to: &mut W, out: &[u8; 1048576], at: usize) -> io::Result<()> {
+pub fn flush_rest<W: Write, const N: usize>(
+    to: &mut W,
+    out: &[u8; N],
+    at: usize,
+) -> io::Result<()> {
     flush(to, out, at)
 }
 
-// After a block: an output that is long enough is written out. Any block has less than 970,000 bytes, so that the next one has room.
-pub fn flush_long<W: Write>(to: &mut W, out: &[u8; 1048576], at: usize) -> io::Result<usize> {
+// After a block: an output that is long enough is written out. A block has at most 903,995 bytes, so that with less than 65,536 before it 1,048,576 are room enough.
+pub fn flush_long<W: Write, const N: usize>(
+    to: &mut W,
+    out: &[u8; N],
+    at: usize,
+) -> io::Result<usize> {
     if at < 65536 {
         return Ok(at);
     }

@@ -2,7 +2,6 @@
 ghost use Rattle.std.specs.Prelude.{◌+◌, ◌<◌, length};
 
 use crate::within::{least, within};
-use input::read_full;
 use script::field::end_of;
 use script::line::is_skipped;
 use script::text::put;
@@ -68,7 +67,7 @@ fn filled(mut p: Place, got: usize) -> Place {
 }
 
 fn refill<R: Read>(p: Place, input: &mut R, chunk: &mut [u8]) -> io::Result<Place> {
-    let got = read_full(input, chunk)?;
+    let got = input.read(chunk)?;
     Ok(filled(p, got))
 }
 
