@@ -70,9 +70,9 @@ two-gives = byRanges two (record { bytes = refl }) (omega arith, omega arith, (o
 ALL='unfolding capped headed allGood boundedTable bytesOf linesIn ascending covering entriesOf linesFrom linesOf rangesTable tableIn turnedOf'
 def by(n): return 'tt' if n==0 else '(omega arith, '+by(n-1)+')'
 def run(name,subs,refuted,extra=None,keep=False):
-    d='/tmp/a8-att/'+name
+    d=os.environ['ATTACKS']+'/'+name
     shutil.rmtree(d,ignore_errors=True)
-    subprocess.check_call(['cp','-r','/tmp/a8-base',d])
+    subprocess.check_call(['cp','-r',os.environ['BASE'],d])
     c=d+'/crates/poll/'
     for f,a,b in subs:
         s=open(c+f).read()
@@ -83,7 +83,7 @@ def run(name,subs,refuted,extra=None,keep=False):
         open(c+'proofs/Lib.antt','a').write('pub mod Refuted\n')
     if extra: extra(c)
     r=subprocess.run('RT_JOBS=1 RT_CUT=0 nice -n 10 rt dev poll',shell=True,cwd=d,stdout=subprocess.PIPE,stderr=subprocess.STDOUT,text=True)
-    open('/tmp/a8-att/'+name+'.out','w').write(r.stdout)
+    open(os.environ['ATTACKS']+'/'+name+'.out','w').write(r.stdout)
     print('=====',name)
     errs={}
     for m in re.finditer(r'^\S*/crates/poll/(\S+?):(\d+):(\d+): error: `([^`]*)`',r.stdout,re.M):
