@@ -2,5 +2,3 @@ pub mod Walks
 pub mod Spelling
 pub mod Storing
 pub mod Placing
-pub mod Counting
-pub mod Powers

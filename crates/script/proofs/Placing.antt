@@ -8,7 +8,7 @@ use native.Mathlib.Omega.{arith}
 use lib.Dec.{leb}
 use lib.ListN.{length, take, get_or}
 use lib.Seq.{sets, take-suc, length-take-le}
-use Rattle.script.specs.Digits.{hex_digit_ascii}
+use Rattle.io.specs.Digits.{hex_digit_ascii}
 use Rattle.pool.proofs.Stores.{sets_append}
 use Rattle.script.specs.Text.{fits, placed, place_after, Placed, hex_of, pairs_text}
 

@@ -4,4 +4,3 @@ pub mod Bytes
 pub mod Numbers
 pub mod Parts
 pub mod Text
-pub mod Digits

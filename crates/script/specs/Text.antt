@@ -1,7 +1,7 @@
 -- The output's text, put into lent bytes from a place on.
 use Rattle.std.specs.Prelude.{Bool, cond, List, [], ◌∷◌, ◌≡◌, ℕ, ◌+◌, ◌/◌, ◌%◌, min, max, leb, length}
 use Rattle.std.proofs.lemmas.List.Edits.{sets}
-use Rattle.script.specs.Digits.{hex_digit_ascii, last_digits, IsDigitCount}
+use Rattle.io.specs.Digits.{hex_digit_ascii, last_digits, IsDigitCount}
 
 -- The text fits from the place on.
 abbrev pub fits : List ℕ → ℕ → List ℕ → Bool

@@ -5,7 +5,6 @@ pub mod begins;
 pub mod bytes;
 pub mod calls;
 pub mod command;
-mod digits;
 pub mod field;
 pub mod line;
 pub mod number;

@@ -1,10 +1,8 @@
 // The output's text, put into lent bytes from a place on. Each answers the place after it; a text that doesn't fit is left out.
 ghost use Rattle.std.specs.Prelude.{◌≡◌, [], ◌∷◌, ◌+◌, ◌*◌, ◌/◌, ◌%◌, ◌≤◌, ◌<◌, leb, length};
 ghost use Rattle.std.proofs.lemmas.List.Edits.{sets};
-ghost use Rattle.script.specs.Digits.{hex_digit_ascii};
+ghost use Rattle.io.specs.Digits.{hex_digit_ascii as digitText};
 ghost use Rattle.script.specs.Text.{Placed, PlacedDecimal, PlacedHex, hex_of, pairs_text};
-
-use crate::digits::{decimal, glyph, hex};
 
 fn has_room(out: &[u8], at: usize, n: usize) -> bool
     ensures { result ≡ leb (at + n) (length out.now) }
@@ -43,7 +41,7 @@ pub fn put_decimal(out: &mut [u8], at: usize, n: u64) -> usize
     ensures { PlacedDecimal out.old at n out.new result }
 {
     let mut text = [0u8; 20];
-    let k = decimal(n, &mut text);
+    let k = io::decimal(n, &mut text);
     put(out, at, &text[..k])
 }
 
@@ -52,14 +50,21 @@ pub fn put_hex(out: &mut [u8], at: usize, n: u64, width: usize) -> usize
     ensures { PlacedHex out.old at width n out.new result }
 {
     let mut text = [0u8; 16];
-    let k = hex(n, width, &mut text);
+    let k = io::hex(n, width, &mut text);
     let place = put(out, at, b"0x");
     put(out, place, &text[..k])
 }
 
+fn glyph(d: u8) -> u8
+    requires { d < 16 }
+    ensures { result ≡ digitText d }
+{
+    if d < 10 { 48 + d } else { 87 + d }
+}
+
 fn put_byte(out: &mut [u8], at: usize, b: u8)
     requires { at + 2 ≤ length out.old }
-    ensures { out.new ≡ sets out.old at (hex_digit_ascii (b / 16) ∷ hex_digit_ascii (b % 16) ∷ []) }
+    ensures { out.new ≡ sets out.old at (digitText (b / 16) ∷ digitText (b % 16) ∷ []) }
 {
     out[at] = glyph(b / 16);
     out[at + 1] = glyph(b % 16);

@@ -1,6 +1,6 @@
 // Lengths cut to what is lent.
 ghost use Rattle.std.specs.Prelude.{◌≤◌};
-ghost use Rattle.script.specs.Digits.{IsPrefixLen};
+ghost use Rattle.std.specs.Counts.{IsPrefixLen};
 
 // `n`, or the length of the bytes where that is less.
 pub fn within(n: usize, s: &[u8]) -> usize
