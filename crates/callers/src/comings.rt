@@ -1,53 +1,29 @@
 // Comings and looks.
-use crate::state::{Callers, host_of, with_host};
-use host::answers::{SubmitAnswer, TurnAnswer, number};
+use crate::state::Callers;
 use host::controller::{HostController, SubmitResult};
 use script::command::{Bulk, Control};
 use session::begin::{extras_of, kind_of, packet_of};
-use session::print::{answer, answer_number, block_end, refused};
+use session::print::{print_answer, print_block_end};
+use std::io::Write;
+use std::{fmt, io};
 use transfers::host_controller::DataPhase;
 use transfers::wire::Direction;
 
-fn print_submit(out: &mut [u8], at: usize, a: SubmitAnswer) -> usize {
-    match a {
-        SubmitAnswer::Accepted => answer(out, at, b"waiting"),
-        SubmitAnswer::Refused(r) => refused(out, at, number(r)),
+// Whose turn it is, as an answer's line spells it.
+#[derive(Clone, Copy)]
+struct Turn(Option<u8>);
+
+impl fmt::Display for Turn {
+    fn fmt<W: fmt::Write>(&self, f: &mut fmt::Formatter<W>) -> fmt::Result {
+        match self.0 {
+            Some(c) => write!(f, "turn {c}"),
+            None => write!(f, "nobody"),
+        }
     }
 }
 
-fn finish(s: Callers, r: SubmitResult, out: &mut [u8]) -> Callers {
-    let next = r.next;
-    let a = r.answer;
-    let mut x = s.session;
-    let at = print_submit(out, x.at, a);
-    x.at = block_end(out, at);
-    with_host(x, next, s.frame)
-}
-
-pub fn come_control(
-    s: Callers,
-    caller: u8,
-    phase: DataPhase,
-    c: Control,
-    out: &mut [u8],
-) -> Callers {
-    let h = host_of(s);
-    let setup = c.setup;
-    let r = h.submit_control(
-        caller,
-        c.address,
-        extras_of(c.preamble),
-        c.size,
-        packet_of(setup),
-        phase,
-        c.count,
-        s.frame,
-    );
-    finish(s, r, out)
-}
-
 fn submit_bulk(
-    h: HostController,
+    host: HostController,
     caller: u8,
     direction: Direction,
     b: Bulk,
@@ -55,35 +31,57 @@ fn submit_bulk(
 ) -> SubmitResult {
     let kind = kind_of(b.variable);
     match direction {
-        Direction::In => h.submit_bulk_in(
+        Direction::In => host.submit_bulk_in(
             caller, b.address, b.endpoint, b.size, kind, b.toggle, b.count, frame,
         ),
-        Direction::Out => h.submit_bulk_out(
+        Direction::Out => host.submit_bulk_out(
             caller, b.address, b.endpoint, b.size, kind, b.toggle, b.count, frame,
         ),
     }
 }
 
-pub fn come_bulk(s: Callers, caller: u8, direction: Direction, b: Bulk, out: &mut [u8]) -> Callers {
-    let h = host_of(s);
-    let r = submit_bulk(h, caller, direction, b, s.frame);
-    finish(s, r, out)
-}
-
-fn print_turn(out: &mut [u8], at: usize, a: TurnAnswer) -> usize {
-    match a {
-        TurnAnswer::Turn(c) => answer_number(out, at, b"turn", c as u64),
-        TurnAnswer::Nobody => answer(out, at, b"nobody"),
+impl Callers {
+    fn submitted<W: Write>(&mut self, r: SubmitResult, out: &mut W) -> io::Result<()> {
+        self.set_host(r.next);
+        print_answer(out, r.answer.map(|()| "waiting"))?;
+        print_block_end(out)
     }
-}
 
-pub fn look(s: Callers, out: &mut [u8]) -> Callers {
-    let h = host_of(s);
-    let t = h.whose_turn(s.frame);
-    let next = t.next;
-    let a = t.answer;
-    let mut x = s.session;
-    let at = print_turn(out, x.at, a);
-    x.at = block_end(out, at);
-    with_host(x, next, s.frame)
+    pub fn come_control<W: Write>(
+        &mut self,
+        caller: u8,
+        phase: DataPhase,
+        c: Control,
+        out: &mut W,
+    ) -> io::Result<()> {
+        let r = self.host().submit_control(
+            caller,
+            c.address,
+            extras_of(c.preamble),
+            c.size,
+            packet_of(c.setup),
+            phase,
+            c.count,
+            self.frame,
+        );
+        self.submitted(r, out)
+    }
+
+    pub fn come_bulk<W: Write>(
+        &mut self,
+        caller: u8,
+        direction: Direction,
+        b: Bulk,
+        out: &mut W,
+    ) -> io::Result<()> {
+        let r = submit_bulk(self.host(), caller, direction, b, self.frame);
+        self.submitted(r, out)
+    }
+
+    pub fn look<W: Write>(&mut self, out: &mut W) -> io::Result<()> {
+        let t = self.host().whose_turn(self.frame);
+        self.set_host(t.next);
+        writeln!(out, "answer {}", Turn(t.answer))?;
+        print_block_end(out)
+    }
 }

@@ -1,99 +1,51 @@
 // The starts.
 use crate::line::Kind;
-use crate::state::{Callers, host_of, with_host};
-use host::answers::StartAnswer;
+use crate::state::Callers;
 use host::start::StartResult;
-use session::begin::zero;
-use session::effects::copy_of;
-use session::print::{answer_number, refused};
-use session::state::State;
-use session::within::{within, within_words};
-use transfers::refusal::number;
+use session::log::Log;
+use session::print::print_answer;
+use std::io::Write;
+use std::{fmt, io};
 
-fn print_start(out: &mut [u8], at: usize, a: StartAnswer) -> usize {
-    match a {
-        StartAnswer::Started(c) => answer_number(out, at, b"started", c as u64),
-        StartAnswer::Refused(r) => refused(out, at, number(r)),
+// The caller whose transfer a start begins, as the answer's line spells it.
+#[derive(Clone, Copy)]
+struct Started(u8);
+
+impl fmt::Display for Started {
+    fn fmt<W: fmt::Write>(&self, f: &mut fmt::Formatter<W>) -> fmt::Result {
+        write!(f, "started {}", self.0)
     }
 }
 
-fn keep(s: State, r: StartResult, count: usize, bulk: bool, buf: &mut [u8], bytes: &[u8]) -> State {
-    let a = r.answer;
-    match a {
-        StartAnswer::Refused(_) => s,
-        StartAnswer::Started(_) => session::begin::keep(s, count, bulk, buf, bytes),
+impl Callers {
+    // The host's starts, on what is lent.
+    fn start_on(&mut self, kind: Kind, count: usize, log: &mut [u32]) -> StartResult {
+        let host = self.host();
+        let buf = &self.session.bytes[..count.min(131072)];
+        let state = &mut self.session.state;
+        match kind {
+            Kind::Control => host.start_control(self.frame, buf, state.lent(), log),
+            Kind::BulkIn => host.start_bulk_in(self.frame, buf, state.lent(), log),
+            Kind::BulkOut => host.start_bulk_out(self.frame, buf, state.lent_mut(), log),
+        }
     }
-}
 
-fn finish(
-    mut s: State,
-    frame: u32,
-    r: StartResult,
-    old: &[u8; 4096],
-    pm: &[u8],
-    log: &[u32; 192],
-    record: &mut [u8],
-    out: &mut [u8],
-) -> Callers {
-    let next = r.next;
-    let a = r.answer;
-    let armed = r.armed;
-    s.at = print_start(out, s.at, a);
-    let s = session::begin::finish(s, armed, r.writes, old, pm, log, record, out);
-    with_host(s, next, frame)
-}
-
-// The host's starts, on what is lent.
-fn lend(
-    s: Callers,
-    kind: Kind,
-    n: usize,
-    bytes: &[u8],
-    pm: &mut [u8],
-    log: &mut [u32],
-) -> StartResult {
-    let h = host_of(s);
-    let x = s.session;
-    let k = within(n, bytes);
-    let m = within(x.memory, pm);
-    let w = within_words(x.words, log);
-    match kind {
-        Kind::Control => h.start_control(s.frame, &bytes[..k], &pm[..m], &mut log[..w]),
-        Kind::BulkIn => h.start_bulk_in(s.frame, &bytes[..k], &pm[..m], &mut log[..w]),
-        Kind::BulkOut => h.start_bulk_out(s.frame, &bytes[..k], &mut pm[..m], &mut log[..w]),
+    // A bulk IN's buffer is all 0 at first.
+    pub fn start<W: Write>(&mut self, kind: Kind, count: usize, out: &mut W) -> io::Result<()> {
+        let mut log = Log::new();
+        let old = self.session.state.pm;
+        if matches!(kind, Kind::BulkIn) {
+            self.session.bytes = [0; 131072];
+        }
+        let words = log.lent(self.session.state.words);
+        let r = self.start_on(kind, count, words);
+        if r.answer.is_ok() {
+            self.session.keep(count, !matches!(kind, Kind::Control));
+        }
+        self.set_host(r.next);
+        print_answer(out, r.answer.map(|caller| Started(caller)))?;
+        self.session
+            .state
+            .finish(r.armed, r.writes, &old, &log, out)
     }
-}
-
-fn is_bulk(kind: Kind) -> bool {
-    match kind {
-        Kind::Control => false,
-        _ => true,
-    }
-}
-
-// A bulk IN's buffer is all 0 at first.
-fn clear(kind: Kind, bytes: &mut [u8; 131072]) {
-    match kind {
-        Kind::BulkIn => zero(bytes),
-        _ => {}
-    }
-}
-
-pub fn start(
-    s: Callers,
-    kind: Kind,
-    n: usize,
-    pm: &mut [u8],
-    buf: &mut [u8],
-    bytes: &mut [u8; 131072],
-    record: &mut [u8],
-    out: &mut [u8],
-) -> Callers {
-    let mut log = [0xA5A5_A5A5u32; 192];
-    let old = copy_of(pm);
-    let x = s.session;
-    clear(kind, bytes);
-    let r = lend(s, kind, n, bytes, pm, &mut log);
-    let x = keep(x, r, n, is_bulk(kind), buf, bytes);
-    finish(x, s.frame, r, &old, pm, &log, record, out)
 }

@@ -1,46 +1,64 @@
-// What a script's lines leave behind: the session's state, what a host holds beside its driver, and the frame number that the next calls bring.
+// What a script's lines leave behind: the session, what a host holds beside its driver, the callers' shares, and the frame number that the next calls bring.
 use dispatcher::Dispatcher;
 use host::controller::HostController;
-use host::fields::Submission;
-use session::state::State;
+use host::fields::Fields;
+use session::play::Session;
+use transfers::driver::DeskRule;
 
-#[derive(Clone, Copy)]
+#[derive(Drop)]
 pub struct Callers {
-    pub session: State,
-    pub dispatcher: Dispatcher,
-    pub submissions: [Submission; 8],
+    pub session: Session,
+    dispatcher: Dispatcher,
+    submissions: [Fields; 8],
+    quota: [u32; 8],
     pub frame: u32,
 }
 
-pub fn host_of(s: Callers) -> HostController {
-    let x = s.session;
-    let driver = x.driver;
-    let dispatcher = s.dispatcher;
-    let submissions = s.submissions;
-    HostController {
-        driver,
-        dispatcher,
-        submissions,
+impl Callers {
+    pub(crate) fn new() -> Callers {
+        let quota = [u32::MAX; 8];
+        let HostController {
+            driver: _,
+            dispatcher,
+            submissions,
+        } = HostController::new(DeskRule::One, quota);
+        Callers {
+            session: Session::new(),
+            dispatcher,
+            submissions,
+            quota,
+            frame: 0,
+        }
     }
-}
 
-// After a host's call.
-pub fn with_host(mut session: State, h: HostController, frame: u32) -> Callers {
-    let driver = h.driver;
-    let dispatcher = h.dispatcher;
-    let submissions = h.submissions;
-    session.driver = driver;
-    Callers {
-        session,
-        dispatcher,
-        submissions,
-        frame,
+    pub(crate) fn host(&self) -> HostController {
+        HostController {
+            driver: self.session.state.driver,
+            dispatcher: self.dispatcher,
+            submissions: self.submissions,
+        }
     }
-}
 
-// After a fresh start: nobody has come yet, and the frame number is 0.
-pub fn fresh_callers(session: State, quota: [u32; 8]) -> Callers {
-    let d = session.driver;
-    let rule = d.rule;
-    with_host(session, HostController::new(rule, quota), 0)
+    // After a host's call.
+    pub(crate) fn set_host(&mut self, host: HostController) {
+        let HostController {
+            driver,
+            dispatcher,
+            submissions,
+        } = host;
+        self.session.state.driver = driver;
+        self.dispatcher = dispatcher;
+        self.submissions = submissions;
+    }
+
+    // After a fresh start: nobody has come yet, and the frame number is 0.
+    pub(crate) fn refresh(&mut self, quota: [u32; 8]) {
+        self.set_host(HostController::new(self.session.state.driver.rule, quota));
+        self.quota = quota;
+        self.frame = 0;
+    }
+
+    pub(crate) fn quota(&self) -> [u32; 8] {
+        self.quota
+    }
 }

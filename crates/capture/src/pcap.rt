@@ -10,22 +10,22 @@ pub(crate) const FILE_HEAD: [u8; 24] = [
 ];
 
 // 32 bits, low byte first.
+#[tactic(auto, using(pool::proofs::Stores::put_sets))]
 fn put_four(head: &mut [u8], at: usize, n: usize)
     requires { at + 4 ≤ length head.old }
     ensures { head.new ≡ sets head.old at (low32 n) }
 {
-    head[at] = (n % 256) as u8;
-    head[at + 1] = (n / 256 % 256) as u8;
-    head[at + 2] = (n / 65536 % 256) as u8;
-    head[at + 3] = (n / 16777216 % 256) as u8;
+    head[at..at + 4].copy_from_slice(&n.to_le_bytes()[..4]);
 }
 
 // The head of packet i, of n bytes: its number stands for the time, in microseconds.
-pub(crate) fn put_frame_head(i: usize, n: usize, head: &mut [u8; 16])
-    ensures { head.new ≡ sets head.old 0 (frame_head i n) }
+pub(crate) fn frame_head(i: usize, n: usize) -> [u8; 16]
+    ensures { result ≡ frame_head i n }
 {
-    put_four(head, 0, i / 1000000);
-    put_four(head, 4, i % 1000000);
-    put_four(head, 8, n);
-    put_four(head, 12, n);
+    let mut head = [0u8; 16];
+    put_four(&mut head, 0, i / 1000000);
+    put_four(&mut head, 4, i % 1000000);
+    put_four(&mut head, 8, n);
+    put_four(&mut head, 12, n);
+    head
 }

@@ -5,12 +5,12 @@ use capture::{Form, print_capture};
 use descriptorlisting::print_configuration;
 use input::{first, read_full};
 use listing::print_record;
-use printing::print_text;
-use script::bytes::{OptionCount, bytes};
-use script::field::end_of;
+use script::bytes::bytes;
 use script::line::is_skipped;
 use std::io;
 use std::io::{Read, Write};
+
+const LONGEST: usize = 600000;
 
 // What the inputs are.
 #[derive(Clone, Copy)]
@@ -35,24 +35,11 @@ fn print_case<W: Write>(
     line: &[u8],
     room: &mut [u8; 131072],
 ) -> io::Result<()> {
-    let count = bytes(line, room);
-    match count {
-        OptionCount::Some(n) => print_listing(out, kind, first(room, n))?,
-        OptionCount::None => print_text(out, b"not hexadecimal\n")?,
+    match bytes(line, room) {
+        Some(n) => print_listing(out, kind, first(room, n))?,
+        None => writeln!(out, "not hexadecimal")?,
     }
-    print_text(out, b".\n")
-}
-
-fn print_line<W: Write>(
-    out: &mut W,
-    kind: Kind,
-    line: &[u8],
-    room: &mut [u8; 131072],
-) -> io::Result<()> {
-    if !is_skipped(line) {
-        print_case(out, kind, line, room)?;
-    }
-    Ok(())
+    writeln!(out, ".")
 }
 
 fn print_lines<W: Write>(
@@ -61,36 +48,32 @@ fn print_lines<W: Write>(
     text: &[u8],
     room: &mut [u8; 131072],
 ) -> io::Result<()> {
-    let mut at: usize = 0;
-    while at < text.len() {
-        let end = end_of(&text[at..], b'\n');
-        print_line(out, kind, &text[at..at + end], room)?;
-        at += end + 1;
+    for line in text.split(|b| *b == b'\n') {
+        if !is_skipped(line) {
+            print_case(out, kind, line, room)?;
+        }
     }
     Ok(())
 }
 
-fn read_text<R: Read>(input: &mut R, text: &mut [u8; 600000]) -> io::Result<usize> {
-    read_full(input, text)
-}
-
 // A text that fills its room is too long.
-fn print_first<W: Write>(
+fn print_text<R: Read, W: Write>(
+    input: &mut R,
     out: &mut W,
     kind: Kind,
-    text: &[u8; 600000],
-    n: usize,
+    text: &mut [u8; LONGEST],
     room: &mut [u8; 131072],
 ) -> io::Result<()> {
-    if n == 600000 {
-        return print_text(out, b"too long\n");
+    let n = read_full(input, text)?;
+    if n == LONGEST {
+        return writeln!(out, "too long");
     }
     print_lines(out, kind, first(text, n), room)
 }
 
+// It only makes the rooms: an array of so many bytes is in the way of any other proof.
 pub fn print_cases<R: Read, W: Write>(input: &mut R, out: &mut W, kind: Kind) -> io::Result<()> {
-    let mut text = [0u8; 600000];
+    let mut text = [0u8; LONGEST];
     let mut room = [0u8; 131072];
-    let n = read_text(input, &mut text)?;
-    print_first(out, kind, &text, n, &mut room)
+    print_text(input, out, kind, &mut text, &mut room)
 }

@@ -1,4 +1,5 @@
 -- The counters hand out exactly document 01's cutting, packet by packet, and stop after the marked one. Assumes nothing.
+use Rattle.std.specs.Prelude.{None, Option}
 use mathlib.Core.Path.{◌≡◌, refl, sym, ap, ◌∙◌}
 use mathlib.Core.Bool.{Bool, true, false, not, cond}
 use mathlib.Core.List.{List, [], ◌∷◌, map}
@@ -11,15 +12,11 @@ use lib.Dec.{ltb}
 use borrow.Author.Tests.{le-ltb}
 use Rattle.pool.proofs.Cases.{by_cases}
 use Rattle.cutting.specs.declared.transfer_type.TransferType.{TransferType}
-use Rattle.cutting.specs.declared.packetiser.Next.{Next}
-use Rattle.cutting.specs.declared.packetiser.OptionArm.TheVariants.{None}
-use Rattle.cutting.specs.declared.packetiser.Next.TheVariants.{Packet as sends, End}
 use Rattle.cutting.specs.declared.packetiser.OutCounters.{OutCounters}
-use Rattle.cutting.specs.declared.packetiser.OutNext.{OutNext}
-use Rattle.cutting.specs.declared.packetiser.InNext.{InNext}
+use Rattle.cutting.specs.declared.packetiser.Next.{Next}
 use Rattle.cutting.specs.declared.packetiser.InPacketiser.{InPacketiser}
 use Rattle.cutting.specs.Cut.{Packet, packet, lengths, deal, none, numbered, out_cut, in_cut_of}
-use Rattle.cutting.specs.Counters.{zlp_of, next_of, pid_of, owed_after, out_start, out_gives, out_next, in_start_of, in_gives, in_next}
+use Rattle.cutting.specs.Counters.{sends, zlp_of, next_of, pid_of, owed_after, out_start, out_gives, out_next, in_start_of, in_gives, in_next}
 use Rattle.cutting.specs.Left.{OutLeft, stop, go, InLeft, stop_in, go_in, Ends}
 use Rattle.cutting.proofs.Lengths.{more, more_le, less_le, lengths_more, lengths_last, lengths_some, next_more, owed_more, next_last, next_after}
 
@@ -72,15 +69,15 @@ module _ (t : TransferType) (p : ℕ) (b : Bool) (h : 0 < p) (k : p ≤ 64) wher
     abbrev out_rest : ℕ → ℕ → Bool → List (Packet (List ℕ))
     out_rest r off s = numbered s (pid_of b s) (deal (lengths t p r) (take r (drop off buf)))
 
-    out_gives_lem : (r off : ℕ) (s : Bool) (n : Next) → off + r ≤ 0xFFFF → next_of r p (zlp_of t p r) ≡ n → out_next (out_at r off s) ≡ out_gives n (out_at r off s)
+    out_gives_lem : (r off : ℕ) (s : Bool) (n : Option (ℕ × Bool)) → off + r ≤ 0xFFFF → next_of r p (zlp_of t p r) ≡ n → out_next (out_at r off s) ≡ out_gives n (out_at r off s)
     unfolding out_next
     out_gives_lem r off s n f e = rw (le-ltb (0xFFFF - off) r (omega arith), e)
 
-    out_none : (r off : ℕ) (s z : Bool) → next_of r p z ≡ End → (out_next (record { slot = s; pid = b; remain = r; offset = off; size = p; zlp = z })).arm ≡ None
+    out_none : (r off : ℕ) (s z : Bool) → next_of r p z ≡ None → (out_next (record { slot = s; pid = b; remain = r; offset = off; size = p; zlp = z })).arm ≡ None
     unfolding out_next
     out_none r off s z e = by (ltb (0xFFFF - off) r)
       where
-        by : (a : Bool) → (out_gives (cond a End (next_of r p z)) (record { slot = s; pid = b; remain = r; offset = off; size = p; zlp = z })).arm ≡ None
+        by : (a : Bool) → (out_gives (cond a None (next_of r p z)) (record { slot = s; pid = b; remain = r; offset = off; size = p; zlp = z })).arm ≡ None
         by true = refl
         by false = rw e
 
@@ -105,7 +102,7 @@ module _ (t : TransferType) (p : ℕ) (b : Bool) (h : 0 < p) (k : p ≤ 64) wher
         let u : r ≤ p = less_le t p r e in
         let x = out_gives_lem r off s (sends r true) f (next_last p h k t r e) in
         rw (out_end r off s e)
-        (go (record { slot = s; pid = pid_of b s; last = true; length = r }) (ap (λ (y : OutNext). y.arm) x) (omega arith) g
+        (go (record { slot = s; pid = pid_of b s; last = true; length = r }) (ap (λ (y : Next OutCounters). y.arm) x) (omega arith) g
         (stop {c = (out_next (out_at r off s)).rest} (rw x (out_none (r - r) (off + r) (not s) (owed_after r (zlp_of t p r)) (next_after p h k t r e)))))
 
     out_left : (n r off : ℕ) (s : Bool) → r ≤ n → off + r ≤ 0xFFFF → off + r ≤ length buf → OutLeft buf (out_at r off s) (out_rest r off s)
@@ -116,7 +113,7 @@ module _ (t : TransferType) (p : ℕ) (b : Bool) (h : 0 < p) (k : p ≤ 64) wher
         let u : p ≤ r = more_le t p r q in
         let x = out_gives_lem r off s (sends p false) f (next_more p h k t r q) in
         rw (out_more r off s q)
-        (go {ks = out_rest (r - p) (off + p) (not s)} (record { slot = s; pid = pid_of b s; last = false; length = p }) (ap (λ (y : OutNext). y.arm) x) k (omega arith)
+        (go {ks = out_rest (r - p) (off + p) (not s)} (record { slot = s; pid = pid_of b s; last = false; length = p }) (ap (λ (y : Next OutCounters). y.arm) x) k (omega arith)
         (rw (x, owed_more p h k t r q) (out_left n (r - p) (off + p) (not s) (omega arith) (omega arith) (omega arith)))))
         (out_last r off s f g)
 
@@ -128,11 +125,11 @@ module _ (t : TransferType) (p : ℕ) (b : Bool) (h : 0 < p) (k : p ≤ 64) wher
   abbrev in_rest : ℕ → Bool → List (Packet ℕ)
   in_rest r s = numbered s (pid_of b s) (map (λ (k : ℕ). p) (lengths t p r))
 
-  in_gives_lem : (r : ℕ) (s : Bool) (n : Next) → next_of r p (zlp_of t p r) ≡ n → in_next (in_at r s) ≡ in_gives n (in_at r s)
+  in_gives_lem : (r : ℕ) (s : Bool) (n : Option (ℕ × Bool)) → next_of r p (zlp_of t p r) ≡ n → in_next (in_at r s) ≡ in_gives n (in_at r s)
   unfolding in_next
   in_gives_lem r s n e = rw e
 
-  in_none : (r : ℕ) (s z : Bool) → next_of r p z ≡ End → (in_next (record { slot = s; pid = b; remain = r; size = p; zlp = z })).arm ≡ None
+  in_none : (r : ℕ) (s z : Bool) → next_of r p z ≡ None → (in_next (record { slot = s; pid = b; remain = r; size = p; zlp = z })).arm ≡ None
   unfolding in_next
   in_none r s z e = rw e
 
@@ -140,7 +137,7 @@ module _ (t : TransferType) (p : ℕ) (b : Bool) (h : 0 < p) (k : p ≤ 64) wher
   in_last r s e =
       let x = in_gives_lem r s (sends r true) (next_last p h k t r e) in
       rw (lengths_last t p r h e, in_only s (pid_of b s) p r)
-      (go_in (record { slot = s; pid = pid_of b s; last = true; length = p }) (ap (λ (y : InNext). y.arm) x)
+      (go_in (record { slot = s; pid = pid_of b s; last = true; length = p }) (ap (λ (y : Next InPacketiser). y.arm) x)
       (stop_in {c = (in_next (in_at r s)).rest} (rw x (in_none (r - r) (not s) (owed_after r (zlp_of t p r)) (next_after p h k t r e)))))
 
   in_left : (n r : ℕ) (s : Bool) → r ≤ n → InLeft (in_at r s) (in_rest r s)
@@ -151,7 +148,7 @@ module _ (t : TransferType) (p : ℕ) (b : Bool) (h : 0 < p) (k : p ≤ 64) wher
       let u : p ≤ r = more_le t p r q in
       let x = in_gives_lem r s (sends p false) (next_more p h k t r q) in
       rw (lengths_more t p r h q, in_first s (pid_of b s) p p (lengths t p (r - p)) (lengths_some t p (r - p) h), ← pid_not b s)
-      (go_in {ks = in_rest (r - p) (not s)} (record { slot = s; pid = pid_of b s; last = false; length = p }) (ap (λ (y : InNext). y.arm) x)
+      (go_in {ks = in_rest (r - p) (not s)} (record { slot = s; pid = pid_of b s; last = false; length = p }) (ap (λ (y : Next InPacketiser). y.arm) x)
       (rw (x, owed_more p h k t r q) (in_left n (r - p) (not s) (omega arith)))))
       (in_last r s)
 

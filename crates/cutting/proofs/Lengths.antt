@@ -1,4 +1,5 @@
 -- The lengths of the packets, one after another: a full packet while another follows, then what is left. Assumes nothing.
+use Rattle.std.specs.Prelude.{None}
 use mathlib.Core.Path.{◌≡◌, refl, sym, ap, ap₂, ◌∙◌, subst}
 use mathlib.Core.Bool.{Bool, true, false, cond}
 use mathlib.Core.List.{List, [], ◌∷◌, ◌++◌}
@@ -12,9 +13,8 @@ use borrow.Author.Tests.{ltb-true, ltb-false, leb-true, leb-false, lt-ltb, le-lt
 use Rattle.pool.proofs.Cases.{by_cases}
 use Rattle.cutting.specs.declared.transfer_type.TransferType.{TransferType}
 use Rattle.cutting.specs.declared.transfer_type.TransferType.TheVariants.{FixedSize, VariableSize}
-use Rattle.cutting.specs.declared.packetiser.Next.TheVariants.{Packet, End}
 use Rattle.cutting.specs.Cut.{ending, lengths, none}
-use Rattle.cutting.specs.Counters.{zlp_of, next_of, owed_after}
+use Rattle.cutting.specs.Counters.{sends, zlp_of, next_of, owed_after}
 
 -- Whether another packet follows one that is cut with n bytes left.
 abbrev pub more : TransferType → ℕ → ℕ → Bool
@@ -80,7 +80,7 @@ lengths_some t p n h = by_cases (more t p n) (λ (q : more t p n ≡ true). rw (
 
 module _ (p : ℕ) (h : 0 < p) (k : p ≤ 64) where
   -- Another packet follows: this one is full and unmarked.
-  pub next_more : (t : TransferType) (r : ℕ) → more t p r ≡ true → next_of r p (zlp_of t p r) ≡ Packet p false
+  pub next_more : (t : TransferType) (r : ℕ) → more t p r ≡ true → next_of r p (zlp_of t p r) ≡ sends p false
   next_more FixedSize r e =
       let u : p < r = ltb-true p r e in
       rw (not_zero p h, le-ltb 64 p k, not_zero r (omega arith), le-ltb r p (omega arith), e)
@@ -101,7 +101,7 @@ module _ (p : ℕ) (h : 0 < p) (k : p ≤ 64) where
       rw (not_zero r (omega arith)) (ap (λ (n : ℕ). eqb n 0) (mod-eq-sub-mod u))
 
   -- No other follows: this one has the rest and is marked.
-  pub next_last : (t : TransferType) (r : ℕ) → more t p r ≡ false → next_of r p (zlp_of t p r) ≡ Packet r true
+  pub next_last : (t : TransferType) (r : ℕ) → more t p r ≡ false → next_of r p (zlp_of t p r) ≡ sends r true
   next_last FixedSize zero e = rw (not_zero p h, le-ltb 64 p k)
   next_last VariableSize zero e = rw (not_zero p h, le-ltb 64 p k, zero-mod)
   next_last FixedSize (suc r) e =
@@ -109,13 +109,13 @@ module _ (p : ℕ) (h : 0 < p) (k : p ≤ 64) where
       (by_cases (ltb (suc r) p) (λ (q : ltb (suc r) p ≡ true). rw q)
       (λ (q : ltb (suc r) p ≡ false).
       let v : p ≡ suc r = let a : p ≤ suc r = ltb-false (suc r) p q in let b : suc r ≤ p = ltb-false p (suc r) e in omega arith in
-      rw (q, e) (ap (λ (n : ℕ). Packet n true) v)))
+      rw (q, e) (ap (λ (n : ℕ). sends n true) v)))
   next_last VariableSize (suc r) e =
       let u : suc r < p = leb-false p (suc r) e in
       rw (not_zero p h, le-ltb 64 p k, not_zero (suc r) (omega arith), lt-ltb (suc r) p u)
 
   -- After it there is none.
-  pub next_after : (t : TransferType) (r : ℕ) → more t p r ≡ false → next_of (r - r) p (owed_after r (zlp_of t p r)) ≡ End
+  pub next_after : (t : TransferType) (r : ℕ) → more t p r ≡ false → next_of (r - r) p (owed_after r (zlp_of t p r)) ≡ None
   next_after t zero e = rw (not_zero p h, le-ltb 64 p k)
   next_after FixedSize (suc r) e = rw (not_zero p h, le-ltb 64 p k, sub_self, not_zero (suc r) (omega arith))
   next_after VariableSize (suc r) e =

@@ -1,9 +1,8 @@
 -- The packets that are still to come from counters, as `next_packet` hands them out one at a time.
-use Rattle.std.specs.Prelude.{◌≡◌, true, false, List, [], ◌∷◌, ℕ, ◌+◌, ◌≤◌, length, take, drop}
+use Rattle.std.specs.Prelude.{◌≡◌, true, false, List, [], ◌∷◌, ℕ, ◌+◌, ◌≤◌, length, take, drop, None, Some}
 use Rattle.cutting.specs.Cut.{Packet, packet}
 use Rattle.cutting.specs.Counters.{out_next, in_next}
 use Rattle.cutting.specs.declared.packetiser.Arm.{Arm}
-use Rattle.cutting.specs.declared.packetiser.OptionArm.TheVariants.{Some, None}
 use Rattle.cutting.specs.declared.packetiser.OutCounters.{OutCounters}
 use Rattle.cutting.specs.declared.packetiser.InPacketiser.{InPacketiser}
 

@@ -20,6 +20,7 @@ pub struct InRetired {
 impl InDepacketiser {
     // A packet of `length` bytes is retired: as many of them are kept as there is room for.
     // Counters that no start makes, with offset and rest above 65,535, keep none.
+    #[tactic(auto, unfolding(crate::specs::Retire::in_retire))]
     pub fn retire(self, length: u16) -> InRetired
         ensures { result ≡ in_retire self length }
     {
@@ -39,7 +40,8 @@ fn kept(offset: u16, remain: u16, length: u16) -> u16
     ensures { result ≡ kept_of offset remain length }
 {
     if 0xFFFF - offset < remain {
-        return 0;
+        0
+    } else {
+        length.min(remain)
     }
-    if length < remain { length } else { remain }
 }

@@ -3,6 +3,7 @@ ghost use Rattle.std.specs.Prelude.{◌≡◌};
 ghost use Rattle.cutting.specs.Counters.{zlp_of, next_of, pid_of, owed_after, out_start, out_next, in_start_of, in_next};
 
 use crate::transfer_type::TransferType;
+use std::cmp::Ordering;
 
 // What a slot is armed with: slot 0 or 1, DATA0 or DATA1, the mark of the last packet, and the length.
 #[derive(Clone, Copy)]
@@ -11,19 +12,6 @@ pub struct Arm {
     pub pid: bool,
     pub last: bool,
     pub length: u8,
-}
-
-#[derive(Clone, Copy)]
-pub enum OptionArm {
-    Some(Arm),
-    None,
-}
-
-// `next_packet`'s answer in the Rust: a length and a mark, or none.
-#[derive(Clone, Copy)]
-pub enum Next {
-    Packet(u8, bool),
-    End,
 }
 
 // `next_prep`, `initial_pid`, `remain`, `offset`, `packet_size` and `need_zero_size_packet` of the Rust.
@@ -44,13 +32,14 @@ pub struct OutPacketiser<'a> {
     pub buf: &'a [u8],
 }
 
+// A packet, if there is one, and the counters after it.
 #[derive(Clone, Copy)]
-pub struct OutNext {
-    pub arm: OptionArm,
-    pub rest: OutCounters,
+pub struct Next<C> {
+    pub arm: Option<Arm>,
+    pub rest: C,
 }
 
-// `next_prep`, `initial_toggle`, `remain`, `packet_size` and `need_zero_size_packet` of the Rust.
+// `next_prep`, `initial_toggle`, `remain`, `packet_size` and `need_zero_size_packet` of the Rust. It has no offset: the definition `in_next` names its fields.
 #[derive(Clone, Copy)]
 pub struct InPacketiser {
     pub slot: bool,
@@ -58,12 +47,6 @@ pub struct InPacketiser {
     pub remain: u16,
     pub size: u8,
     pub zlp: bool,
-}
-
-#[derive(Clone, Copy)]
-pub struct InNext {
-    pub arm: OptionArm,
-    pub rest: InPacketiser,
 }
 
 // Whether an empty packet is owed at the start.
@@ -81,30 +64,21 @@ fn need_zero_size_packet(kind: TransferType, size: u8, length: u16) -> bool
     }
 }
 
-// A packet size outside 1 to 64 gives no packet.
-fn next_length(remain: u16, size: u8, zlp: bool) -> Next
+// `next_packet`'s answer in the Rust: a length and the mark of the last packet. A packet size outside 1 to 64 gives none.
+fn next_length(remain: u16, size: u8, zlp: bool) -> Option<(u8, bool)>
     ensures { result ≡ next_of remain size zlp }
 {
-    if size == 0 {
-        return Next::End;
-    }
-    if 64 < size {
-        return Next::End;
+    if size == 0 || 64 < size {
+        return None;
     }
     if remain == 0 {
-        if zlp {
-            return Next::Packet(0, true);
-        } else {
-            return Next::End;
-        }
+        return zlp.then_some((0, true));
     }
-    if remain < size as u16 {
-        return Next::Packet(remain as u8, true);
+    match remain.cmp(&(size as u16)) {
+        Ordering::Less => Some((remain as u8, true)),
+        Ordering::Greater => Some((size, false)),
+        Ordering::Equal => Some((size, !zlp)),
     }
-    if (size as u16) < remain {
-        return Next::Packet(size, false);
-    }
-    Next::Packet(size, !zlp)
 }
 
 // Slot 0 has the first PID, slot 1 the other.
@@ -118,7 +92,7 @@ fn slot_pid(pid: bool, slot: bool) -> bool
 fn still_owed(remain: u16, zlp: bool) -> bool
     ensures { result ≡ owed_after remain zlp }
 {
-    if remain == 0 { false } else { zlp }
+    remain != 0 && zlp
 }
 
 impl OutCounters {
@@ -127,45 +101,44 @@ impl OutCounters {
     {
         OutCounters {
             slot: false,
-            pid: pid,
+            pid,
             remain: length,
             offset: 0,
-            size: size,
+            size,
             zlp: need_zero_size_packet(kind, size, length),
         }
     }
 
     // The next packet and the counters after it.
     // Counters that no start makes, with offset and rest above 65,535, give no packet.
-    pub fn next_packet(self) -> OutNext
+    #[tactic(auto, unfolding(crate::specs::Counters::out_next))]
+    pub fn next_packet(self) -> Next<OutCounters>
         ensures { result ≡ out_next self }
     {
         if 0xFFFF - self.offset < self.remain {
-            return OutNext {
-                arm: OptionArm::None,
+            return Next {
+                arm: None,
                 rest: self,
             };
         }
-        let next = next_length(self.remain, self.size, self.zlp);
-        match next {
-            Next::End => OutNext {
-                arm: OptionArm::None,
+        match next_length(self.remain, self.size, self.zlp) {
+            None => Next {
+                arm: None,
                 rest: self,
             },
-            Next::Packet(n, last) => OutNext {
-                arm: OptionArm::Some(Arm {
+            Some((n, last)) => Next {
+                arm: Some(Arm {
                     slot: self.slot,
                     pid: slot_pid(self.pid, self.slot),
-                    last: last,
+                    last,
                     length: n,
                 }),
                 rest: OutCounters {
                     slot: !self.slot,
-                    pid: self.pid,
                     remain: self.remain - n as u16,
                     offset: self.offset + n as u16,
-                    size: self.size,
                     zlp: still_owed(self.remain, self.zlp),
+                    ..self
                 },
             },
         }
@@ -178,57 +151,55 @@ impl InPacketiser {
     {
         InPacketiser {
             slot: false,
-            pid: pid,
+            pid,
             remain: length,
-            size: size,
+            size,
             zlp: need_zero_size_packet(kind, size, length),
         }
     }
 
     // The next packet and the counters after it, by value. A slot is armed with the packet size, however few bytes are left.
-    fn packet(self) -> InNext
+    #[tactic(auto, unfolding(crate::specs::Counters::in_next))]
+    fn packet(self) -> Next<InPacketiser>
         ensures { result ≡ in_next self }
     {
-        let next = next_length(self.remain, self.size, self.zlp);
-        match next {
-            Next::End => InNext {
-                arm: OptionArm::None,
+        match next_length(self.remain, self.size, self.zlp) {
+            None => Next {
+                arm: None,
                 rest: self,
             },
-            Next::Packet(n, last) => InNext {
-                arm: OptionArm::Some(Arm {
+            Some((n, last)) => Next {
+                arm: Some(Arm {
                     slot: self.slot,
                     pid: slot_pid(self.pid, self.slot),
-                    last: last,
+                    last,
                     length: self.size,
                 }),
                 rest: InPacketiser {
                     slot: !self.slot,
-                    pid: self.pid,
                     remain: self.remain - n as u16,
-                    size: self.size,
                     zlp: still_owed(self.remain, self.zlp),
+                    ..self
                 },
             },
         }
     }
 
     // The counters are lent, as in the Rust: they change to those after the packet.
-    pub fn next_packet(&mut self) -> OptionArm
+    pub fn next_packet(&mut self) -> Option<Arm>
         ensures { (result ≡ (in_next self.old).arm) × (self.new ≡ (in_next self.old).rest) }
     {
-        let c = *self;
-        let next = c.packet();
+        let next = self.packet();
         *self = next.rest;
         next.arm
     }
 }
 
 // For a caller that has the counters by value: they are lent to `next_packet`, and come back beside its answer.
-pub fn next_in(c: InPacketiser) -> InNext
+pub fn next_in(c: InPacketiser) -> Next<InPacketiser>
     ensures { result ≡ in_next c }
 {
-    let mut p = c;
-    let arm = p.next_packet();
-    InNext { arm: arm, rest: p }
+    let mut rest = c;
+    let arm = rest.next_packet();
+    Next { arm, rest }
 }

@@ -6,10 +6,11 @@ use mathlib.Core.List.{List, [], ◌∷◌, ◌++◌, append_assoc}
 use Prim.Native.Nat.{ℕ, zero, suc, ◌+◌, ◌*◌, ◌≤◌}
 use native.Mathlib.Nat.{zero-add}
 use native.Mathlib.Omega.{arith}
+use Rattle.std.proofs.Common.{rules}
+use Rattle.std.proofs.lemmas.Grind.{common_steps}
 use lib.Dec.{eqb}
 use lib.ListN.{length, take, drop, get_or, length-append, take-append-drop}
 use lib.Seq.{length-take-le, take-add, drop-drop, take-append_seam, drop-append_seam}
-use borrow.Author.Tests.{eqb-true, eqb-false}
 use Rattle.descriptor.specs.Walk.{Walked, descriptor, endpoint, end, refused, total_of, walk_of}
 use Rattle.descriptor.specs.Answers.{Accepted, Stands, Deserves, no_head, wrong_total, at_end, too_short, runs_past, short_endpoint, another_type, an_endpoint}
 use Rattle.descriptor.specs.Whole.{IsDescriptor, AllDescriptors, joined, Hands, Last, Finds, WalkOver, WholeWalk}
@@ -18,16 +19,10 @@ use Rattle.descriptor.proofs.Answered.{deserved, only, end_from, end_only}
 -- ---- what an answer hands back
 
 hands_last : (w : Walked) (p : List ℕ) → Hands w p → Last w → ⊥
-hands_last (descriptor q) p h l = l
-hands_last (endpoint q e) p h l = l
-hands_last end p h l = h
-hands_last (refused n) p h l = h
+hands_last w p h l = search rules
 
 hands_same : (w : Walked) (p q : List ℕ) → Hands w p → Hands w q → p ≡ q
-hands_same (descriptor r) p q h i = sym h ∙ i
-hands_same (endpoint r e) p q h i = sym h ∙ i
-hands_same end p q h i = absurd h
-hands_same (refused n) p q h i = absurd h
+hands_same w p q h i = search rules
 
 -- What is handed back is a descriptor that stands there.
 pub record Handed (b : List ℕ) (at : ℕ) (p : List ℕ) : Type 0 where
@@ -42,22 +37,22 @@ handed b at p h = go (walk_of b at) h (deserved b at)
     here q e a s k = subst (Handed b at) e (record { accepted = a; stands = s; is = record { begins = s.begins; endpoint_length = λ x. omega (arith, k x) } })
 
     go : (w : Walked) → Hands w p → Deserves b at w → Handed b at p
-    go w h (no_head t f) = absurd (subst (λ (v : Walked). Hands v p) f h)
-    go w h (wrong_total t u f) = absurd (subst (λ (v : Walked). Hands v p) f h)
-    go w h (at_end a t f) = absurd (subst (λ (v : Walked). Hands v p) f h)
-    go w h (too_short a t n f) = absurd (subst (λ (v : Walked). Hands v p) f h)
-    go w h (runs_past a t two n f) = absurd (subst (λ (v : Walked). Hands v p) f h)
-    go w h (short_endpoint a q s k n f) = absurd (subst (λ (v : Walked). Hands v p) f h)
-    go w h (another_type a q s k f) = here q (subst (λ (v : Walked). Hands v p) f h) a s (λ x. absurd (k x))
-    go w h (an_endpoint a q s k n f) = here q (subst (λ (v : Walked). Hands v p) f h) a s (λ x. n)
+    go w h (no_head t f) = search rules
+    go w h (wrong_total t u f) = search rules
+    go w h (at_end a t f) = search rules
+    go w h (too_short a t n f) = search rules
+    go w h (runs_past a t two n f) = search rules
+    go w h (short_endpoint a q s k n f) = search rules
+    go w h (another_type a q s k f) = here q (search rules) a s (search rules)
+    go w h (an_endpoint a q s k n f) = here q (search rules) a s (search rules)
 
 -- A descriptor that stands at a position is handed back.
 pub hands_standing : (b : List ℕ) (at : ℕ) (p : List ℕ) → Accepted b → Stands b at p → IsDescriptor p → Hands (walk_of b at) p
 hands_standing b at p a s i = go (eqb (get_or p 1 0) 5) refl
   where
     go : (t : Bool) → eqb (get_or p 1 0) 5 ≡ t → Hands (walk_of b at) p
-    go true e = subst (λ (v : Walked). Hands v p) (only b at _ (an_endpoint a p s (eqb-true _ _ e) (omega (arith, i.endpoint_length (eqb-true _ _ e))) refl)) refl
-    go false e = subst (λ (v : Walked). Hands v p) (only b at _ (another_type a p s (eqb-false _ _ e) refl)) refl
+    go true e = let o = only b at _ (an_endpoint a p s (search rules) (search rules) refl) in search rules
+    go false e = let o = only b at _ (another_type a p s (search rules) refl) in search rules
 
 -- A descriptor is handed back, or none.
 pub turned : (w : Walked) → ((p : List ℕ) × Hands w p) ⊎ Last w
@@ -88,13 +83,13 @@ walk_from zero b at enough = over b at (λ p h. absurd (omega (arith, enough, in
 walk_from (suc n) b at enough = over b at (λ p h. walk_from n b (at + length p) (omega (arith, enough, inside b at p (handed b at p h)))) (turned (walk_of b at))
 
 finds_one : (b : List ℕ) (at : ℕ) (ps qs : List (List ℕ)) (v w : Walked) → Finds b at ps v → Finds b at qs w → (ps ≡ qs) × (v ≡ w)
-finds_one b at [] [] v w f g = (refl, sym f.0 ∙ g.0)
-finds_one b at [] (q ∷ qs) v w f g = absurd (hands_last v q (subst (λ (x : Walked). Hands x q) f.0 g.0) f.1)
-finds_one b at (p ∷ ps) [] v w f g = absurd (hands_last w p (subst (λ (x : Walked). Hands x p) g.0 f.0) g.1)
+finds_one b at [] [] v w f g = search rules
+finds_one b at [] (q ∷ qs) v w f g = let l = hands_last v q in search rules
+finds_one b at (p ∷ ps) [] v w f g = let l = hands_last w p in search rules
 finds_one b at (p ∷ ps) (q ∷ qs) v w f g =
-    let same : p ≡ q = hands_same (walk_of b at) p q f.0 g.0 in
-    let rest = finds_one b (at + length p) ps qs v w f.1 (subst (λ (x : List ℕ). Finds b (at + length x) qs w) (sym same) g.1) in
-    (ap₂ (λ (x : List ℕ) (xs : List (List ℕ)). x ∷ xs) same rest.0, rest.1)
+    let same = hands_same (walk_of b at) p q f.0 g.0 in
+    let rest = finds_one b (at + length p) ps qs v w f.1 in
+    search rules
 
 finds_few : (b : List ℕ) (at : ℕ) (ps : List (List ℕ)) (w : Walked) → Finds b at ps w → at ≤ total_of b → at + 2 * length ps ≤ total_of b
 finds_few b at [] w f h = omega (arith, h)
@@ -108,7 +103,7 @@ finds_each b at (p ∷ ps) w f = ((handed b at p f.0).is, finds_each b (at + len
 
 -- The bytes from a position on begin with the descriptor that stands there.
 standing_rest : (b : List ℕ) (at : ℕ) (p : List ℕ) (s : Stands b at p) → drop at b ≡ p ++ s.after
-standing_rest b at p s = ap₂ (λ (k : ℕ) (l : List ℕ). drop k l) (sym s.position) s.bytes ∙ drop-append_seam s.before (p ++ s.after)
+standing_rest b at p s = let e = drop-append_seam s.before (p ++ s.after) in search rules
 
 finds_first : (b : List ℕ) (at : ℕ) (ps : List (List ℕ)) (w : Walked) → Finds b at ps w → joined ps ≡ take (length (joined ps)) (drop at b)
 finds_first b at [] w f = refl
@@ -120,15 +115,15 @@ finds_first b at (p ∷ ps) w f =
 
 -- The last answer is given at the position after all that was found.
 finds_last : (b : List ℕ) (at : ℕ) (ps : List (List ℕ)) (w : Walked) → Finds b at ps w → walk_of b (at + length (joined ps)) ≡ w
-finds_last b at [] w f = ap (walk_of b) (omega arith) ∙ f.0
+finds_last b at [] w f = search rules
 finds_last b at (p ∷ ps) w f = ap (walk_of b) (omega (arith, length-append p (joined ps))) ∙ finds_last b (at + length p) ps w f.1
 
 -- It isn't past wTotalLength.
 finds_within : (b : List ℕ) (at : ℕ) (ps : List (List ℕ)) (w : Walked) → Finds b at ps w → at ≤ total_of b → at + length (joined ps) ≤ total_of b
-finds_within b at [] w f h = omega (arith, h)
+finds_within b at [] w f h = search rules
 finds_within b at (p ∷ ps) w f h =
     let i = inside b at p (handed b at p f.0) in
-    omega (arith, length-append p (joined ps), finds_within b (at + length p) ps w f.1 (omega (arith, i)))
+    omega (arith, length-append p (joined ps), finds_within b (at + length p) ps w f.1 (search rules))
 
 -- The walk came to the end at wTotalLength.
 over_at : (b : List ℕ) (x : WalkOver b) → x.last ≡ end → length (joined x.found) ≡ total_of b
@@ -146,8 +141,7 @@ stands_after b pre p rest a i e =
     record {
       before = pre;
       after = rest ++ drop (total_of b) b;
-      bytes = sym (take-append-drop (total_of b) b) ∙ ap (λ (l : List ℕ). l ++ drop (total_of b) b) e
-          ∙ append_assoc pre (p ++ rest) (drop (total_of b) b) ∙ ap (λ (l : List ℕ). pre ++ l) (append_assoc p rest (drop (total_of b) b));
+      bytes = let whole = take-append-drop (total_of b) b in grind (arith, common_steps);
       position = refl;
       begins = i.begins;
       within = omega (arith, t, ap length e, length-append pre (p ++ rest), length-append p rest);
@@ -155,7 +149,7 @@ stands_after b pre p rest a i e =
 
 -- The same bytes with a descriptor gone over.
 gone_over : (pre p rest tail : List ℕ) → pre ++ ((p ++ rest) ++ tail) ≡ (pre ++ p) ++ (rest ++ tail)
-gone_over pre p rest tail = ap (λ (l : List ℕ). pre ++ l) (append_assoc p rest tail) ∙ sym (append_assoc pre p (rest ++ tail))
+gone_over pre p rest tail = grind (arith, common_steps)
 
 finds_before : (b pre : List ℕ) (qs ps : List (List ℕ)) (w : Walked) (rest : List ℕ) → Accepted b → AllDescriptors ps
     → take (total_of b) b ≡ pre ++ (joined ps ++ rest) → Finds b (length pre) qs w → take (length ps) qs ≡ ps

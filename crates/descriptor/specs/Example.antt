@@ -1,10 +1,11 @@
 -- A boot mouse's configuration, walked: each line is computed by the checker.
-use Rattle.std.specs.Prelude.{◌≡◌, refl, List, [], ◌∷◌, ◌++◌, ℕ, ◌+◌, ◌*◌}
+use Rattle.std.specs.Prelude.{◌≡◌, refl, List, [], ◌∷◌, ◌++◌, ℕ, ◌+◌, ◌*◌, Option, Some, None, Result, Ok, Err}
+use Rattle.descriptor.specs.declared.refusal.Refusal.{Refusal}
 use Rattle.descriptor.specs.declared.refusal.Refusal.TheVariants.{Length, TotalLength, Configuration}
 use Rattle.descriptor.specs.declared.walk.EndpointKind.{EndpointKind}
 use Rattle.descriptor.specs.declared.walk.EndpointKind.TheVariants.{Control, Isochronous, Bulk, Interrupt}
-use Rattle.descriptor.specs.declared.walk.WalkAnswer.{WalkAnswer}
-use Rattle.descriptor.specs.declared.walk.WalkAnswer.TheVariants.{Descriptor, Endpoint, End, Refused}
+use Rattle.descriptor.specs.declared.walk.Endpoint.{Endpoint}
+use Rattle.descriptor.specs.declared.walk.Descriptor.{Descriptor}
 use Rattle.descriptor.specs.Walk.{walk_of, end}
 use Rattle.descriptor.specs.Reply.{type_number, walk_reply}
 use Rattle.descriptor.specs.Whole.{Finds}
@@ -32,17 +33,25 @@ endpoint_with attributes = endpoint_of attributes 0x81 8 0 10
 abbrev box : ℕ → List ℕ
 box attributes = configuration ++ (interface ++ (hid ++ endpoint_with attributes))
 
--- The endpoint of a kind, as the call answers it.
-abbrev answered : EndpointKind → WalkAnswer
-answered kind = Endpoint (record { address = 0x81; kind = kind; size = 8; interval = 10 })
+-- What the call answers: a descriptor of no endpoint, ..
+abbrev other : Result (Option Descriptor) Refusal
+other = Ok (Some (record { endpoint = None }))
+
+-- .. an endpoint with the given fields, ..
+abbrev found : Endpoint → Result (Option Descriptor) Refusal
+found e = Ok (Some (record { endpoint = Some e }))
+
+-- .. and the mouse's, of the given kind.
+abbrev answered : EndpointKind → Result (Option Descriptor) Refusal
+answered kind = found (record { address = 0x81; kind = kind; size = 8; interval = 10 })
 
 pub record Example : Type 0 where
   -- the walk, call by call: what is answered, and the part that goes with it
-  pub first : walk_reply Descriptor configuration ≡ walk_of (box 3) 0
-  pub second : walk_reply Descriptor interface ≡ walk_of (box 3) 9
-  pub third : walk_reply Descriptor hid ≡ walk_of (box 3) 18
+  pub first : walk_reply other configuration ≡ walk_of (box 3) 0
+  pub second : walk_reply other interface ≡ walk_of (box 3) 9
+  pub third : walk_reply other hid ≡ walk_of (box 3) 18
   pub fourth : walk_reply (answered Interrupt) (endpoint_with 3) ≡ walk_of (box 3) 27
-  pub fifth : walk_reply End [] ≡ walk_of (box 3) 34
+  pub fifth : walk_reply (Ok None) [] ≡ walk_of (box 3) 34
   -- the same as one walk
   pub walk : Finds (box 3) 0 (configuration ∷ interface ∷ hid ∷ endpoint_with 3 ∷ []) end
   -- the other transfer types
@@ -51,15 +60,15 @@ pub record Example : Type 0 where
   pub bulk : walk_reply (answered Bulk) (endpoint_with 2) ≡ walk_of (box 2) 27
   -- whatever the endpoint's fields are
   pub any : (kind : EndpointKind) (address low high interval : ℕ)
-      → walk_reply (Endpoint (record { address = address; kind = kind; size = low + 256 * high; interval = interval })) (endpoint_of (type_number kind) address low high interval)
+      → walk_reply (found (record { address = address; kind = kind; size = low + 256 * high; interval = interval })) (endpoint_of (type_number kind) address low high interval)
       ≡ walk_of (configuration ++ (interface ++ (hid ++ endpoint_of (type_number kind) address low high interval))) 27
   -- a refusal of each kind
-  pub length : walk_reply (Refused Length) [] ≡ walk_of (box 3) 12
-  pub past : walk_reply (Refused TotalLength) [] ≡ walk_of (box 3) 33
-  pub nothing : walk_reply (Refused Configuration) [] ≡ walk_of [] 0
+  pub length : walk_reply (Err Length) [] ≡ walk_of (box 3) 12
+  pub past : walk_reply (Err TotalLength) [] ≡ walk_of (box 3) 33
+  pub nothing : walk_reply (Err Configuration) [] ≡ walk_of [] 0
 
 any_endpoint : (kind : EndpointKind) (address low high interval : ℕ)
-    → walk_reply (Endpoint (record { address = address; kind = kind; size = low + 256 * high; interval = interval })) (endpoint_of (type_number kind) address low high interval)
+    → walk_reply (found (record { address = address; kind = kind; size = low + 256 * high; interval = interval })) (endpoint_of (type_number kind) address low high interval)
     ≡ walk_of (configuration ++ (interface ++ (hid ++ endpoint_of (type_number kind) address low high interval))) 27
 unfolding walk_of
 any_endpoint Control address low high interval = refl

@@ -9,12 +9,14 @@ pub enum Refusal {
     Configuration,
 }
 
-pub fn number(refusal: Refusal) -> u8
-    ensures { result ≡ number_of refusal }
-{
-    match refusal {
-        Refusal::Length => 22,
-        Refusal::TotalLength => 23,
-        Refusal::Configuration => 24,
+impl From<Refusal> for u8 {
+    ghost from_gives = { λ refusal number. number ≡ number_of refusal };
+
+    fn from(refusal: Refusal) -> u8 {
+        match refusal {
+            Refusal::Length => 22,
+            Refusal::TotalLength => 23,
+            Refusal::Configuration => 24,
+        }
     }
 }

@@ -1,9 +1,11 @@
 // What the walk answers at a position, and the descriptor that it finds there.
-ghost use Rattle.std.specs.Prelude.{◌≡◌, ◌+◌, ◌*◌, ◌%◌, ◌≤◌, ◌<◌, length, get_or};
-ghost use Rattle.descriptor.specs.Walk.{part_at, endpoint_answer, inside_answer, total_of, walk_of, part_of};
-ghost use Rattle.descriptor.specs.Reply.{type_number, walk_reply};
+ghost use Rattle.std.specs.Prelude.{◌≡◌, ℕ, ◌+◌, ◌%◌, ◌≤◌, ◌<◌, length, get_or, Some, MatchResult};
+ghost use Rattle.descriptor.specs.Walk.{part_at, fields_at, inside_answer, total_of, walk_of, part_of, refused};
+ghost use Rattle.descriptor.specs.Answers.{Accepted};
+ghost use Rattle.descriptor.specs.Reply.{number_of, type_number, type_text, fields_of, walk_reply};
 
 use crate::refusal::Refusal;
+use std::fmt;
 
 // An endpoint's transfer type.
 #[derive(Clone, Copy)]
@@ -14,6 +16,33 @@ pub enum EndpointKind {
     Interrupt,
 }
 
+// Of bmAttributes.
+impl From<u8> for EndpointKind {
+    ghost from_gives = { λ attributes kind. type_number kind ≡ attributes % 4 };
+
+    fn from(attributes: u8) -> EndpointKind {
+        match attributes % 4 {
+            0 => EndpointKind::Control,
+            1 => EndpointKind::Isochronous,
+            2 => EndpointKind::Bulk,
+            _ => EndpointKind::Interrupt,
+        }
+    }
+}
+
+impl fmt::Display for EndpointKind {
+    ghost output = { λ kind. Some (type_text kind) };
+
+    fn fmt<W: fmt::Write>(&self, f: &mut fmt::Formatter<W>) -> fmt::Result {
+        f.write_str(match self {
+            EndpointKind::Control => "control",
+            EndpointKind::Isochronous => "isochronous",
+            EndpointKind::Bulk => "bulk",
+            EndpointKind::Interrupt => "interrupt",
+        })
+    }
+}
+
 #[derive(Clone, Copy)]
 pub struct Endpoint {
     pub address: u8,
@@ -22,96 +51,82 @@ pub struct Endpoint {
     pub interval: u8,
 }
 
-// A descriptor other than an endpoint's, an endpoint's with its fields, the end, or a refusal.
+// A descriptor that the walk finds, and an endpoint's with its fields. Its bytes are `descriptor_at`'s.
 #[derive(Clone, Copy)]
-pub enum WalkAnswer {
-    Descriptor,
-    Endpoint(Endpoint),
-    End,
-    Refused(Refusal),
+pub struct Descriptor {
+    pub endpoint: Option<Endpoint>,
 }
 
 const CONFIGURATION: u8 = 2;
 
 const ENDPOINT: u8 = 5;
 
-fn word(low: u8, high: u8) -> u16
-    ensures { result ≡ low + 256 * high }
+// The fields of an endpoint descriptor, at least 7 bytes of it lent.
+fn endpoint_at(bytes: &[u8], at: usize) -> Endpoint
+    requires { at + 7 ≤ length bytes.now }
+    ensures { fields_of result ≡ fields_at bytes.now at }
 {
-    low as u16 + 256 * high as u16
-}
-
-fn kind_of(attributes: u8) -> EndpointKind
-    ensures { type_number result ≡ attributes % 4 }
-{
-    let kind = attributes % 4;
-    match kind {
-        0 => EndpointKind::Control,
-        1 => EndpointKind::Isochronous,
-        2 => EndpointKind::Bulk,
-        _ => EndpointKind::Interrupt,
-    }
-}
-
-// An endpoint descriptor of n bytes, all of them lent.
-fn endpoint_answer(bytes: &[u8], at: usize, n: usize) -> WalkAnswer
-    requires { (at + n ≤ length bytes.now) × (n ≡ get_or bytes.now at 0) }
-    ensures { walk_reply result (part_at bytes.now at) ≡ endpoint_answer bytes.now at }
-{
-    if n < 7 {
-        return WalkAnswer::Refused(Refusal::Length);
-    }
-    WalkAnswer::Endpoint(Endpoint {
+    Endpoint {
         address: bytes[at + 2],
-        kind: kind_of(bytes[at + 3]),
-        size: word(bytes[at + 4], bytes[at + 5]),
+        kind: EndpointKind::from(bytes[at + 3]),
+        size: u16::from_le_bytes([bytes[at + 4], bytes[at + 5]]),
         interval: bytes[at + 6],
-    })
+    }
 }
 
 // At a position before wTotalLength.
-fn inside_answer(bytes: &[u8], total: usize, at: usize) -> WalkAnswer
+fn inside_answer(bytes: &[u8], total: usize, at: usize) -> Result<Option<Descriptor>, Refusal>
     requires { (total ≤ length bytes.now) × (at < total) × (total ≡ total_of bytes.now) }
     ensures { walk_reply result (part_at bytes.now at) ≡ inside_answer bytes.now at }
 {
     let n = bytes[at] as usize;
     if n < 2 {
-        return WalkAnswer::Refused(Refusal::Length);
+        return Err(Refusal::Length);
     }
     if total - at < n {
-        return WalkAnswer::Refused(Refusal::TotalLength);
+        return Err(Refusal::TotalLength);
     }
-    if bytes[at + 1] == ENDPOINT {
-        return endpoint_answer(bytes, at, n);
+    if bytes[at + 1] != ENDPOINT {
+        return Ok(Some(Descriptor { endpoint: None }));
     }
-    WalkAnswer::Descriptor
+    if n < 7 {
+        return Err(Refusal::Length);
+    }
+    Ok(Some(Descriptor {
+        endpoint: Some(endpoint_at(bytes, at)),
+    }))
 }
 
-// What the walk answers at a position. The descriptor that it finds is `descriptor_at`'s part of the bytes.
-pub fn answer_at(bytes: &[u8], at: usize) -> WalkAnswer
+// wTotalLength, where none of the first two checks refuses.
+#[tactic(auto, unfolding(crate::specs::Walk::walk_of))]
+fn total_length(bytes: &[u8]) -> Result<usize, Refusal>
+    ensures { MatchResult result (λ total. (total ≡ total_of bytes.now) × Accepted bytes.now) (λ why. (at : ℕ) → refused (number_of why) ≡ walk_of bytes.now at) }
+{
+    if bytes.len() < 9 || bytes[1] != CONFIGURATION {
+        return Err(Refusal::Configuration);
+    }
+    let total = usize::from(u16::from_le_bytes([bytes[2], bytes[3]]));
+    if total < 9 || bytes.len() < total {
+        return Err(Refusal::TotalLength);
+    }
+    Ok(total)
+}
+
+// The descriptor at a position, or none from wTotalLength on; bytes and position are the two that README's calls take.
+// Its bytes come from a call of their own: `OneAnswer` fixes an answer by its reply, which has a slice's bytes and not where they lie.
+#[tactic(auto, unfolding(crate::specs::Walk::walk_of))]
+pub fn answer_at(bytes: &[u8], at: usize) -> Result<Option<Descriptor>, Refusal>
     ensures { walk_reply result (part_of (walk_of bytes.now at)) ≡ walk_of bytes.now at }
 {
-    if bytes.len() < 9 {
-        return WalkAnswer::Refused(Refusal::Configuration);
-    }
-    if bytes[1] != CONFIGURATION {
-        return WalkAnswer::Refused(Refusal::Configuration);
-    }
-    let total = word(bytes[2], bytes[3]) as usize;
-    if total < 9 {
-        return WalkAnswer::Refused(Refusal::TotalLength);
-    }
-    if bytes.len() < total {
-        return WalkAnswer::Refused(Refusal::TotalLength);
-    }
+    let total = total_length(bytes)?;
     if total <= at {
-        return WalkAnswer::End;
+        return Ok(None);
     }
     inside_answer(bytes, total, at)
 }
 
 // The bytes of the descriptor at a position, all of them lent.
-fn part_at<'a>(bytes: &'a [u8], at: usize) -> &'a [u8]
+fn part_at(bytes: &[u8], at: usize) -> &[u8]
     requires { (at < length bytes.now) × (at + get_or bytes.now at 0 ≤ length bytes.now) }
     ensures { result.now ≡ part_at bytes.now at }
 {
@@ -120,14 +135,11 @@ fn part_at<'a>(bytes: &'a [u8], at: usize) -> &'a [u8]
 }
 
 // The descriptor at a position, a part of the caller's own bytes; empty where none is found.
-pub fn descriptor_at<'a>(bytes: &'a [u8], at: usize) -> &'a [u8]
+pub fn descriptor_at(bytes: &[u8], at: usize) -> &[u8]
     ensures { result.now ≡ part_of (walk_of bytes.now at) }
 {
-    let answer = answer_at(bytes, at);
-    match answer {
-        WalkAnswer::Descriptor => part_at(bytes, at),
-        WalkAnswer::Endpoint(_) => part_at(bytes, at),
-        WalkAnswer::End => &bytes[0..0],
-        WalkAnswer::Refused(_) => &bytes[0..0],
+    match answer_at(bytes, at) {
+        Ok(Some(_)) => part_at(bytes, at),
+        Ok(None) | Err(_) => &bytes[..0],
     }
 }

@@ -1,4 +1,5 @@
 // Lists the descriptors of the configuration on standard input.
+// A program of its own for each listing: reading and one call.
 #![tactic(auto)]
 
 use descriptorlisting::print_configuration;
@@ -8,6 +9,5 @@ use std::io;
 fn main(rt: HostRuntime) -> io::Result<()> {
     let mut room = [0u8; 65537];
     let n = read_input(&mut rt.stdin(), &mut room)?;
-    let mut out = rt.stdout();
-    print_configuration(&mut out, first(&room, n))
+    print_configuration(&mut rt.stdout(), first(&room, n))
 }

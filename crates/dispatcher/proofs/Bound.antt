@@ -5,14 +5,13 @@ use mathlib.Core.Bool.{Bool, true, false, cond, ◌&&◌, true≢false}
 use mathlib.Core.List.{List, [], ◌∷◌}
 use Prim.Native.Nat.{ℕ, ◌+◌, ◌-◌, ◌%◌, ◌≤◌, ◌<◌}
 use native.Mathlib.Omega.{arith}
-use lib.Seq.{get_or-set_other}
 use lib.Dec.{leb, eqb}
 use borrow.Author.Tests.{leb-true, leb-false, lt-leb, eqb-false, ne_eqb}
 use Rattle.dispatcher.specs.declared.Dispatcher.{Dispatcher}
-use Rattle.dispatcher.specs.Dispatcher.{nobody, requested_at, fits, next_turn, passes, settled, whose, in_frame, with_pending, observes, charged, starts}
+use Rattle.dispatcher.specs.Dispatcher.{nobody, requested_at, fits, next_turn, passes, settled, whose, in_frame, with_pending, observes, runs, starts}
 use Rattle.dispatcher.specs.Events.{Event, submitted, observed, started, ended, nothing, moved, idle_after, Allowed, AllAllowed, runner, ends_other, others_end}
 use Rattle.dispatcher.proofs.Rounds.{gap}
-use Rattle.dispatcher.proofs.Rooms.{fits_told, fits_made, fits_frame}
+use Rattle.dispatcher.proofs.Rooms.{kept_frame, fits_frame, fits_by, other_kept}
 use Rattle.dispatcher.proofs.Turning.{Good, next_reach, still_fits, move_good}
 
 -- So many transfers of others can still end before c has the turn: those of the callers from the one whose turn it is up to c; while one is under way those from it on, seven others if it is c's own.
@@ -85,7 +84,7 @@ nearer : (c r : ℕ) (idle : Bool) (t : Dispatcher) (x : Event) → Good idle t 
 nearer c r idle t (submitted d n g) k a h f rl nt =
     let u = with_pending (in_frame t g) d n in
     record {
-      still = still_fits (in_frame t g) d n c a.1 (fits_frame t g c f);
+      still = still_fits (in_frame t g) d n c ((kept_frame t g d).0 ∙ a.1) (fits_frame t g c f);
       fewer = zero_plus (left idle (settled idle u) c) (left idle t c) (left_same idle t (settled idle u) c (stays idle u (next_turn u) (turn_held idle t c k h f)) refl);
       ran = rl;
     }
@@ -101,10 +100,8 @@ nearer c r true t (started d g) k a h f rl nt =
     let v = observes true t g in
     let turn_d : t.turn ≡ d = sym (stays true u (next_turn u) (turn_held true t c k h f)) ∙ a.2 in
     let ne : (c ≡ d) → ⊥ = λ e. nt (turn_d ∙ sym e) in
-    let q = fits_told v c (fits_frame t g c f) in
-    let same = get_or-set_other v.used d c (charged v d (requested_at t d)) 0 ne in
     record {
-      still = fits_made (starts v d (requested_at t d)) c (get_or-set_other v.pending d c false false ne ∙ q.0) (omega (arith, same, q.1));
+      still = ap fits_by (other_kept v d (runs v d (requested_at t d)) c ne) ∙ fits_frame t g c f;
       fewer = zero_plus (left false (starts v d (requested_at t d)) c) (left true t c)
           (ap (λ (b : Bool). cond b 7 ((c + 8 - d) % 8)) (ne_eqb d c (λ e. ne (sym e))) ∙ ap (λ (x : ℕ). (c + 8 - x) % 8) (sym turn_d));
       ran = λ e. refl;

@@ -1,3 +1,4 @@
+pub mod Mapped
 pub mod Rounds
 pub mod Rooms
 pub mod Turning

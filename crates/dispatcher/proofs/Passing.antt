@@ -3,13 +3,13 @@ use mathlib.Core.Path.{◌≡◌, refl, sym, ap, ◌∙◌}
 use mathlib.Core.Bool.{Bool, true, false, cond, true≢false}
 use Prim.Native.Nat.{ℕ, ◌≤◌, ◌<◌}
 use native.Mathlib.Omega.{arith}
-use lib.Seq.{get_or-set_other}
 use lib.Dec.{leb, eqb}
 use borrow.Author.Tests.{leb-true, leb-false, le-leb, eqb-true, eqb-false}
+use Rattle.dispatcher.specs.declared.Caller.{Caller}
 use Rattle.dispatcher.specs.declared.Dispatcher.{Dispatcher}
 use Rattle.dispatcher.specs.Dispatcher.{nobody, pending_at, fits, next_turn, with_turn, passes, current, whose, in_frame, with_pending, submits}
 use Rattle.dispatcher.proofs.Rounds.{Reached}
-use Rattle.dispatcher.proofs.Rooms.{fits_told}
+use Rattle.dispatcher.proofs.Rooms.{fits_told, kept_frame, other_kept}
 use Rattle.dispatcher.proofs.Turning.{Good, next_reach, next_small, next_held}
 
 -- ---- what is stored, as of now
@@ -65,7 +65,8 @@ first_submit t c n f g none h fit =
       where
         go : (b : Bool) → eqb e c ≡ b → e ≡ c
         go true q = eqb-true e c q
-        go false q = absurd (true≢false (sym w ∙ get_or-set_other t.pending c e true false (eqb-false e c q) ∙ none e he))
+        go false q =
+            absurd (true≢false (sym w ∙ ap (λ (x : Caller). x.pending) (other_kept (in_frame t f) c _ e (eqb-false e c q)) ∙ (kept_frame t f e).0 ∙ none e he))
 
     r : Reached (fits u) t.last c (next_turn u)
     r = next_reach u g.pre.last8 c h fit

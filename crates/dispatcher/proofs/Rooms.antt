@@ -1,14 +1,16 @@
 -- Remainders. Assumes nothing.
-use mathlib.Core.Path.{◌≡◌, refl, sym, ap}
+use mathlib.Core.Path.{◌≡◌, refl, sym, ap, ◌∙◌}
 use mathlib.Core.Bool.{Bool, true, false, cond, ◌&&◌, true≢false}
-use mathlib.Core.List.{List}
-use Prim.Native.Nat.{ℕ, zero, suc, ◌+◌, ◌-◌, ◌≤◌}
+use mathlib.Core.List.{List, map}
+use Prim.Native.Nat.{ℕ, ◌+◌, ◌-◌, ◌≤◌, ◌<◌}
 use native.Mathlib.Omega.{arith}
-use lib.ListN.{length, get_or, replicate}
+use lib.ListN.{length, get_or, get_or-map, length-map}
+use lib.Seq.{get_or-set_same, get_or-set_other}
 use lib.Dec.{leb, eqb}
-use borrow.Author.Tests.{leb-true, le-leb, leb-false, lt-leb, eq-eqb, ne_eqb}
+use borrow.Author.Tests.{leb-true, le-leb, leb-false, lt-leb}
+use Rattle.dispatcher.specs.declared.Caller.{Caller}
 use Rattle.dispatcher.specs.declared.Dispatcher.{Dispatcher}
-use Rattle.dispatcher.specs.Dispatcher.{pending_at, requested_at, quota_at, used_at, fits, charged, in_frame}
+use Rattle.dispatcher.specs.Dispatcher.{no_caller, caller_at, with_caller, pending_at, requested_at, quota_at, used_at, fits, charged, unspent, in_frame}
 
 -- The same test, by the remainder and by the sum.
 pub room_by : (used n quota : ℕ) → used ≤ quota → leb n (quota - used) ≡ leb (used + n) quota
@@ -38,40 +40,54 @@ fits_made t c e h = of_both (pending_at t c) (used_at t c + requested_at t c) (q
 
 -- ---- a frame number
 
-pub zeros : (n c : ℕ) → ◌≡◌ {A = ℕ} (get_or (replicate n 0) c 0) 0
-zeros zero c = refl
-zeros (suc n) zero = refl
-zeros (suc n) (suc c) = zeros n c
+-- With nothing spent of any, nothing is spent of c.
+pub unspent_at : (l : List Caller) (c : ℕ) → get_or (map unspent l) c no_caller ≡ unspent (get_or l c no_caller)
+unspent_at l c = get_or-map unspent l c no_caller
 
--- Other spent counts, in frame f.
-abbrev pub with_used : Dispatcher → ℕ → List ℕ → Dispatcher
-with_used t f used = record { pending = t.pending; requested = t.requested; quota = t.quota; used = used; turn = t.turn; last = t.last; frame = f }
+-- All else of c stays,
+pub kept_frame : (t : Dispatcher) (f c : ℕ) → (pending_at (in_frame t f) c ≡ pending_at t c) × (requested_at (in_frame t f) c ≡ requested_at t c) × (quota_at (in_frame t f) c ≡ quota_at t c)
+kept_frame t f c = go (eqb f t.frame)
+  where
+    go : (b : Bool) → let x = get_or (cond b t.callers (map unspent t.callers)) c no_caller in
+        (x.pending ≡ pending_at t c) × (x.requested ≡ requested_at t c) × (x.quota ≡ quota_at t c)
+    go true = (refl, refl, refl)
+    go false =
+        let e = unspent_at t.callers c in
+        (ap (λ (x : Caller). x.pending) e, ap (λ (x : Caller). x.requested) e, ap (λ (x : Caller). x.quota) e)
 
--- Another number, and the same.
-pub frame_new : (t : Dispatcher) (f : ℕ) → ((f ≡ t.frame) → ⊥) → with_used t f (replicate 8 0) ≡ in_frame t f
-frame_new t f e = ap (λ (b : Bool). with_used t f (cond b t.used (replicate 8 0))) (sym (ne_eqb f t.frame e))
-
-pub frame_same : (t : Dispatcher) (f : ℕ) → f ≡ t.frame → with_used t f t.used ≡ in_frame t f
-frame_same t f e = ap (λ (b : Bool). with_used t f (cond b t.used (replicate 8 0))) (sym (eq-eqb f t.frame e))
-
--- No spent count grows,
+-- no spent count grows,
 pub used_frame : (t : Dispatcher) (f c : ℕ) → used_at (in_frame t f) c ≤ used_at t c
 used_frame t f c = go (eqb f t.frame)
   where
-    go : (b : Bool) → get_or (cond b t.used (replicate 8 0)) c 0 ≤ get_or t.used c 0
+    go : (b : Bool) → let x = get_or (cond b t.callers (map unspent t.callers)) c no_caller in x.used ≤ used_at t c
     go true = omega arith
-    go false = let z = zeros 8 c in omega (arith, z)
+    go false = let z = ap (λ (x : Caller). x.used) (unspent_at t.callers c) in omega (arith, z)
 
 -- so that who fits goes on fitting.
 pub fits_frame : (t : Dispatcher) (f c : ℕ) → fits t c ≡ true → fits (in_frame t f) c ≡ true
 fits_frame t f c e =
     let g = fits_told t c e in
+    let k = kept_frame t f c in
     let s = used_frame t f c in
-    fits_made (in_frame t f) c g.0 (omega (arith, g.1, s))
+    fits_made (in_frame t f) c (k.0 ∙ g.0) (omega (arith, g.1, s, k.1, k.2))
 
-pub length_frame : (b : Bool) (s : List ℕ) → length s ≡ 8 → length (cond b s (replicate 8 0)) ≡ 8
-length_frame true s e = e
-length_frame false s e = refl
+pub length_frame : (b : Bool) (l : List Caller) → length (cond b l (map unspent l)) ≡ length l
+length_frame true l = refl
+length_frame false l = length-map l unspent
+
+-- ---- another state of a caller
+
+-- What fits, by what is kept of it.
+abbrev pub fits_by : Caller → Bool
+fits_by x = x.pending && leb (x.used + x.requested) x.quota
+
+-- It leaves the others,
+pub other_kept : (t : Dispatcher) (c : ℕ) (x : Caller) (d : ℕ) → (d ≡ c → ⊥) → caller_at (with_caller t c x) d ≡ caller_at t d
+other_kept t c x d e = get_or-set_other t.callers c d x no_caller e
+
+-- and is kept.
+pub same_kept : (t : Dispatcher) (c : ℕ) (x : Caller) → length t.callers ≡ 8 → c < 8 → caller_at (with_caller t c x) c ≡ x
+same_kept t c x n h = get_or-set_same t.callers c x no_caller (omega arith)
 
 -- ---- a charge
 

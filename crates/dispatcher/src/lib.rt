@@ -3,21 +3,37 @@
 // Steps and cancels don't touch a dispatcher. The turn that passes when a transfer ends is handed out by the next call here, as of that end.
 #![tactic(auto)]
 
-ghost use Rattle.std.specs.Prelude.{◌≡◌, false, cond, ◌+◌, get_or, set, leb};
-ghost use Rattle.dispatcher.specs.Dispatcher.{pending_at, quota_at, has_room, fits, after, next_turn, settled, current, whose, fresh, in_frame, submits, observes, starts};
+ghost use Rattle.std.specs.Prelude.{◌≡◌, cond, ◌+◌, leb};
+ghost use Rattle.dispatcher.specs.Dispatcher.{caller_at, with_caller, pending_at, quota_at, has_room, fits, after, next_turn, settled, current, whose, fresh, in_frame, submits, observes, starts};
 
-// `requested` is what the transfer of each caller that waits will be charged; `quota` the share of each, in bytes a frame, `used` its spent count; `turn` the caller whose
-// turn it is, 8 if nobody's; `last` the last that started; `frame` the frame number last seen.
+// What is kept of a caller: whether a transfer of it waits, what that transfer will be charged, its share, in bytes a frame, and its spent count.
+#[derive(Clone, Copy)]
+pub struct Caller {
+    pub pending: bool,
+    pub requested: usize,
+    pub quota: u32,
+    pub used: u32,
+}
+
+// `turn` is the caller whose turn it is, 8 if nobody's; `last` the last that started; `frame` the frame number last seen.
 #[derive(Clone, Copy)]
 pub struct Dispatcher {
-    pub pending: [bool; 8],
-    pub requested: [usize; 8],
-    pub quota: [u32; 8],
-    pub used: [u32; 8],
+    pub callers: [Caller; 8],
     pub turn: u8,
     pub last: u8,
     pub frame: u32,
 }
+
+// Every number above 7 is nobody's turn too. It stays a number: as an `Option<u8>` nobody's would be `None` and every `Some` above 7 as well, as `edges` forges 9 and 255.
+const NOBODY: u8 = 8;
+
+// A caller that has no share and doesn't wait.
+const NO_CALLER: Caller = Caller {
+    pending: false,
+    requested: 0,
+    quota: 0,
+    used: 0,
+};
 
 // "the next higher number .., going round after 7"
 fn after(i: u8) -> u8
@@ -26,92 +42,24 @@ fn after(i: u8) -> u8
     if i >= 7 { 0 } else { i + 1 }
 }
 
-// Whether c is marked; no number above 7 is.
-fn is_marked(pending: [bool; 8], c: u8) -> bool
-    ensures { result ≡ get_or pending c false }
-{
-    if c > 7 {
-        return false;
+impl Caller {
+    // n more bytes are within the share.
+    fn has_room(self, n: usize) -> bool
+        ensures { result ≡ leb (self.used + n) self.quota }
+    {
+        self.used <= self.quota && n <= (self.quota - self.used) as usize
     }
-    let i = c as usize;
-    pending[i]
-}
 
-// A number above 7 marks nobody.
-fn marked(mut pending: [bool; 8], c: u8, waits: bool) -> [bool; 8]
-    ensures { result ≡ set pending c waits }
-{
-    if c > 7 {
-        return pending;
+    // The spent count with n bytes more, as far as the share reaches.
+    fn charged(self, n: usize) -> u32
+        ensures { result ≡ cond (leb (self.used + n) self.quota) (self.used + n) self.used }
+    {
+        if self.has_room(n) {
+            self.used + n as u32
+        } else {
+            self.used
+        }
     }
-    let i = c as usize;
-    pending[i] = waits;
-    pending
-}
-
-// What c asks for; nobody above 7 asks for anything.
-fn bytes_at(requested: [usize; 8], c: u8) -> usize
-    ensures { result ≡ get_or requested c 0 }
-{
-    if c > 7 {
-        return 0;
-    }
-    let i = c as usize;
-    requested[i]
-}
-
-fn with_bytes(mut requested: [usize; 8], c: u8, n: usize) -> [usize; 8]
-    ensures { result ≡ set requested c n }
-{
-    if c > 7 {
-        return requested;
-    }
-    let i = c as usize;
-    requested[i] = n;
-    requested
-}
-
-// The share or the spent count of c; 0 above 7.
-fn count_at(counts: [u32; 8], c: u8) -> u32
-    ensures { result ≡ get_or counts c 0 }
-{
-    if c > 7 {
-        return 0;
-    }
-    let i = c as usize;
-    counts[i]
-}
-
-fn with_count(mut counts: [u32; 8], c: u8, n: u32) -> [u32; 8]
-    ensures { result ≡ set counts c n }
-{
-    if c > 7 {
-        return counts;
-    }
-    let i = c as usize;
-    counts[i] = n;
-    counts
-}
-
-// n more bytes are within the share.
-fn is_room(used: u32, n: usize, quota: u32) -> bool
-    ensures { result ≡ leb (used + n) quota }
-{
-    if used > quota {
-        return false;
-    }
-    let rest = quota - used;
-    n <= rest as usize
-}
-
-// The spent count with n bytes more, as far as the share reaches.
-fn charge(used: u32, n: usize, quota: u32) -> u32
-    ensures { result ≡ cond (leb (used + n) quota) (used + n) used }
-{
-    if is_room(used, n, quota) {
-        return used + n as u32;
-    }
-    used
 }
 
 impl Dispatcher {
@@ -120,76 +68,79 @@ impl Dispatcher {
         ensures { result ≡ fresh quota }
     {
         Dispatcher {
-            pending: [false; 8],
-            requested: [0; 8],
-            quota: quota,
-            used: [0; 8],
-            turn: 8,
+            callers: quota.map(|quota| Caller { quota, ..NO_CALLER }),
+            turn: NOBODY,
             last: 7,
             frame: 0,
         }
+    }
+
+    // Of a number above 7 nothing is kept.
+    fn caller(self, c: u8) -> Caller
+        ensures { result ≡ caller_at self c }
+    {
+        self.callers.get(c as usize).copied().unwrap_or(NO_CALLER)
+    }
+
+    fn with_caller(mut self, c: u8, caller: Caller) -> Dispatcher
+        ensures { result ≡ with_caller self c caller }
+    {
+        let i = c as usize;
+        if i < self.callers.len() {
+            self.callers[i] = caller;
+        }
+        self
     }
 
     // Whether a transfer of c waits; of nobody above 7.
     pub fn pending_at(self, c: u8) -> bool
         ensures { result ≡ pending_at self c }
     {
-        let pending = self.pending;
-        is_marked(pending, c)
+        self.caller(c).pending
     }
 
     // The share of c; 0 above 7.
     pub fn quota_at(self, c: u8) -> u32
         ensures { result ≡ quota_at self c }
     {
-        let quota = self.quota;
-        count_at(quota, c)
+        self.caller(c).quota
     }
 
     // Whether the remainder of c is large enough for n bytes.
     pub fn has_room(self, c: u8, n: usize) -> bool
         ensures { result ≡ has_room self c n }
     {
-        let used = self.used;
-        let quota = self.quota;
-        is_room(count_at(used, c), n, count_at(quota, c))
+        self.caller(c).has_room(n)
     }
 
     // Whether c may have the turn: it waits, and its remainder is large enough.
     fn fits(self, c: u8) -> bool
         ensures { result ≡ fits self c }
     {
-        if !self.pending_at(c) {
-            return false;
-        }
-        let requested = self.requested;
-        let n = bytes_at(requested, c);
-        self.has_room(c, n)
+        let caller = self.caller(c);
+        caller.pending && caller.has_room(caller.requested)
     }
 
-    // The next after the last that started, itself at the end, that fits; 8 if nobody does.
+    // The next after the last that started, itself at the end, that fits. It goes round by `after`, from any last above 7 too; nothing is indexed.
     fn next_turn(self) -> u8
         ensures { result ≡ next_turn self }
     {
         let mut i = self.last;
-        for k in 0u8..8 {
+        for _ in 0..8usize {
             i = after(i);
             if self.fits(i) {
                 return i;
             }
         }
-        8
+        NOBODY
     }
 
     // With none under way and nobody's turn, the next that fits has it.
     fn settled(mut self, idle: bool) -> Dispatcher
         ensures { result ≡ settled idle self }
     {
-        if idle {
-            if self.turn >= 8 {
-                let c = self.next_turn();
-                self.turn = c;
-            }
+        if idle && self.turn >= NOBODY {
+            self.turn = self.next_turn();
         }
         self
     }
@@ -200,7 +151,7 @@ impl Dispatcher {
     {
         self = self.settled(idle);
         if frame != self.frame {
-            self.used = [0; 8];
+            self.callers = self.callers.map(|caller| Caller { used: 0, ..caller });
         }
         self.frame = frame;
         self
@@ -210,7 +161,7 @@ impl Dispatcher {
     pub fn whose(self, idle: bool) -> u8
         ensures { result ≡ whose idle self }
     {
-        if idle { self.turn } else { 8 }
+        if idle { self.turn } else { NOBODY }
     }
 
     // A transfer of c comes, of n bytes.
@@ -218,35 +169,28 @@ impl Dispatcher {
         ensures { result ≡ submits idle (current idle self) c n frame }
     {
         self = self.in_frame(idle, frame);
-        let waiting = self.pending;
-        let asked = self.requested;
-        let pending = marked(waiting, c, true);
-        let requested = with_bytes(asked, c, n);
-        self.pending = pending;
-        self.requested = requested;
-        self.settled(idle)
+        let mut caller = self.caller(c);
+        caller.pending = true;
+        caller.requested = n;
+        self.with_caller(c, caller).settled(idle)
     }
 
     // A look; a start begins with one.
     pub fn observes(self, idle: bool, frame: u32) -> Dispatcher
         ensures { result ≡ observes idle (current idle self) frame }
     {
-        let t = self.in_frame(idle, frame);
-        t.settled(idle)
+        self.in_frame(idle, frame).settled(idle)
     }
 
     // The transfer of c starts, and is charged n bytes.
     pub fn starts(mut self, c: u8, n: usize) -> Dispatcher
         ensures { result ≡ starts self c n }
     {
-        let waiting = self.pending;
-        let spent = self.used;
-        let quota = self.quota;
-        let pending = marked(waiting, c, false);
-        let used = with_count(spent, c, charge(count_at(spent, c), n, count_at(quota, c)));
-        self.pending = pending;
-        self.used = used;
-        self.turn = 8;
+        let mut caller = self.caller(c);
+        caller.pending = false;
+        caller.used = caller.charged(n);
+        self = self.with_caller(c, caller);
+        self.turn = NOBODY;
         self.last = c;
         self
     }

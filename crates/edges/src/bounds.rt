@@ -1,128 +1,130 @@
-// The other conditions of 16, on both sides of each bound. Buffers have 4 bytes.
-use crate::forged::{after_data, bulk, busy, control, sampled, stage, state};
+// The other conditions of 16, on both sides of each bound. Buffers have 4 bytes. What varies a field is a function of its own, as in callers.rt.
+use crate::forged::{BEGUN, EMPTY, Moved, after_data, bulk, busy, control, sampled, stage, state};
 use std::io;
 use std::io::Write;
-use transfers::driver::{Kind, Stage};
+use transfers::driver::{Request, Run, Stage};
 use transfers::host_controller::DataPhase;
 use transfers::sample::Sample;
 use transfers::wire::Direction;
 
 // A bulk IN and a bulk OUT.
-fn bulks<W: Write>(
-    out: &mut W,
-    what: &[u8],
-    endpoint: u8,
-    inflight: u8,
-    offset: u16,
-    remain: u16,
-) -> io::Result<()> {
-    let inward = stage(true, false, inflight, offset, remain);
-    let outward = stage(false, false, inflight, offset, remain);
-    state(
-        out,
-        b"bulk IN",
-        what,
-        busy(5, 8, bulk(Direction::In, endpoint), inward),
-    )?;
-    state(
-        out,
-        b"bulk OUT",
-        what,
-        busy(5, 8, bulk(Direction::Out, endpoint), outward),
-    )
+fn bulks<W: Write>(out: &mut W, what: &str, endpoint: u8, moved: Moved) -> io::Result<()> {
+    let inward = stage(Direction::In, false, moved);
+    let outward = stage(Direction::Out, false, moved);
+    write!(out, "bulk IN, {what}:")?;
+    state(out, Some(busy(bulk(Direction::In, endpoint), inward)))?;
+    write!(out, "bulk OUT, {what}:")?;
+    state(out, Some(busy(bulk(Direction::Out, endpoint), outward)))
+}
+
+fn moving<W: Write>(out: &mut W, what: &str, offset: u16, remain: u16) -> io::Result<()> {
+    let moved = Moved {
+        offset,
+        remain,
+        ..BEGUN
+    };
+    bulks(out, what, 2, moved)
 }
 
 // "more than two in flight", "offset plus rest above the stage's length"
 fn data<W: Write>(out: &mut W) -> io::Result<()> {
-    bulks(out, b", 2 in flight:", 2, 2, 0, 4)?;
-    bulks(out, b", 3 in flight:", 2, 3, 0, 4)?;
-    bulks(out, b", offset 1 and rest 3 of 4:", 2, 1, 1, 3)?;
-    bulks(out, b", offset 1 and rest 4 of 4:", 2, 1, 1, 4)?;
-    bulks(out, b", offset 2 and rest 3 of 4:", 2, 1, 2, 3)?;
-    bulks(out, b", offset and rest 65,535:", 2, 1, 65535, 65535)
+    let two = Moved {
+        inflight: 2,
+        ..BEGUN
+    };
+    let three = Moved {
+        inflight: 3,
+        ..BEGUN
+    };
+    bulks(out, "2 in flight", 2, two)?;
+    bulks(out, "3 in flight", 2, three)?;
+    moving(out, "offset 1 and rest 3 of 4", 1, 3)?;
+    moving(out, "offset 1 and rest 4 of 4", 1, 4)?;
+    moving(out, "offset 2 and rest 3 of 4", 2, 3)?;
+    moving(out, "offset and rest 65,535", 65535, 65535)
 }
 
 // The same of a status stage, whose length is 0.
-fn ending<W: Write>(
-    out: &mut W,
-    what: &[u8],
-    inflight: u8,
-    offset: u16,
-    remain: u16,
-) -> io::Result<()> {
-    let outward = stage(false, true, inflight, offset, remain);
-    state(
-        out,
-        b"control In, status",
-        what,
-        busy(5, 8, control(DataPhase::In, 4), outward),
-    )
+fn ending<W: Write>(out: &mut W, what: &str, moved: Moved) -> io::Result<()> {
+    let outward = stage(Direction::Out, true, moved);
+    write!(out, "control In, status, {what}:")?;
+    state(out, Some(busy(control(DataPhase::In, 4), outward)))
 }
 
 fn status<W: Write>(out: &mut W) -> io::Result<()> {
-    ending(out, b", 2 in flight:", 2, 0, 0)?;
-    ending(out, b", 3 in flight:", 3, 0, 0)?;
-    ending(out, b", offset 0 and rest 1:", 1, 0, 1)?;
-    ending(out, b", offset 1 and rest 0:", 1, 1, 0)
+    let two = Moved {
+        inflight: 2,
+        ..EMPTY
+    };
+    let three = Moved {
+        inflight: 3,
+        ..EMPTY
+    };
+    let rest = Moved { remain: 1, ..EMPTY };
+    let past = Moved { offset: 1, ..EMPTY };
+    ending(out, "2 in flight", two)?;
+    ending(out, "3 in flight", three)?;
+    ending(out, "offset 0 and rest 1", rest)?;
+    ending(out, "offset 1 and rest 0", past)
 }
 
 // "a data or status stage longer than begin's buffer"
-fn length<W: Write>(out: &mut W, what: &[u8], wLength: u16) -> io::Result<()> {
-    let inward = stage(true, false, 1, 0, 4);
-    let outward = stage(false, false, 1, 0, 4);
-    state(
-        out,
-        b"control In",
-        what,
-        busy(5, 8, control(DataPhase::In, wLength), inward),
-    )?;
-    state(
-        out,
-        b"control Out",
-        what,
-        busy(5, 8, control(DataPhase::Out, wLength), outward),
-    )
+fn length<W: Write>(out: &mut W, wLength: u16) -> io::Result<()> {
+    let inward = stage(Direction::In, false, BEGUN);
+    let outward = stage(Direction::Out, false, BEGUN);
+    write!(out, "control In, wLength {wLength} of 4:")?;
+    state(out, Some(busy(control(DataPhase::In, wLength), inward)))?;
+    write!(out, "control Out, wLength {wLength} of 4:")?;
+    state(out, Some(busy(control(DataPhase::Out, wLength), outward)))
+}
+
+fn addresses<W: Write>(out: &mut W, name: &str, run: Run) -> io::Result<()> {
+    for address in [127, 128] {
+        let request = Request {
+            address,
+            ..run.request
+        };
+        write!(out, "{name}, address {address}:")?;
+        state(out, Some(Run { request, ..run }))?;
+    }
+    Ok(())
+}
+
+fn sizes<W: Write>(out: &mut W, name: &str, run: Run) -> io::Result<()> {
+    for size in [0, 1, 64, 65] {
+        let request = Request {
+            size,
+            ..run.request
+        };
+        write!(out, "{name}, packet size {size}:")?;
+        state(out, Some(Run { request, ..run }))?;
+    }
+    Ok(())
 }
 
 // "an address, endpoint or packet size that begin refuses"
-fn request<W: Write>(out: &mut W, name: &[u8], kind: Kind, st: Stage) -> io::Result<()> {
-    state(out, name, b", address 127:", busy(127, 8, kind, st))?;
-    state(out, name, b", address 128:", busy(128, 8, kind, st))?;
-    state(out, name, b", packet size 0:", busy(5, 0, kind, st))?;
-    state(out, name, b", packet size 1:", busy(5, 1, kind, st))?;
-    state(out, name, b", packet size 64:", busy(5, 64, kind, st))?;
-    state(out, name, b", packet size 65:", busy(5, 65, kind, st))
+fn request<W: Write>(out: &mut W, name: &str, run: Run) -> io::Result<()> {
+    addresses(out, name, run)?;
+    sizes(out, name, run)
+}
+
+fn endpoints<W: Write>(out: &mut W) -> io::Result<()> {
+    bulks(out, "endpoint 0", 0, BEGUN)?;
+    bulks(out, "endpoint 1", 1, BEGUN)?;
+    bulks(out, "endpoint 15", 15, BEGUN)?;
+    bulks(out, "endpoint 16", 16, BEGUN)
 }
 
 fn fields<W: Write>(out: &mut W) -> io::Result<()> {
-    request(
-        out,
-        b"bulk IN",
-        bulk(Direction::In, 2),
-        stage(true, false, 1, 0, 4),
-    )?;
-    request(
-        out,
-        b"bulk OUT",
-        bulk(Direction::Out, 2),
-        stage(false, false, 1, 0, 4),
-    )?;
-    request(
-        out,
-        b"control In, SETUP",
-        control(DataPhase::In, 4),
-        Stage::Setup,
-    )?;
-    request(
-        out,
-        b"control Out, SETUP",
-        control(DataPhase::Out, 4),
-        Stage::Setup,
-    )?;
-    bulks(out, b", endpoint 0:", 0, 1, 0, 4)?;
-    bulks(out, b", endpoint 1:", 1, 1, 0, 4)?;
-    bulks(out, b", endpoint 15:", 15, 1, 0, 4)?;
-    bulks(out, b", endpoint 16:", 16, 1, 0, 4)
+    let inward = stage(Direction::In, false, BEGUN);
+    let outward = stage(Direction::Out, false, BEGUN);
+    request(out, "bulk IN", busy(bulk(Direction::In, 2), inward))?;
+    request(out, "bulk OUT", busy(bulk(Direction::Out, 2), outward))?;
+    let setup = busy(control(DataPhase::In, 4), Stage::Setup);
+    request(out, "control In, SETUP", setup)?;
+    let setup = busy(control(DataPhase::Out, 4), Stage::Setup);
+    request(out, "control Out, SETUP", setup)?;
+    endpoints(out)
 }
 
 // What a control In has received is not among 16's conditions: its status stage answers it, forged or not.
@@ -132,21 +134,16 @@ fn received<W: Write>(out: &mut W) -> io::Result<()> {
         intr: 0x8,
         buffers: 0,
     };
-    let forged = busy(5, 8, control(DataPhase::In, 4), after_data(9999));
-    sampled(
-        out,
-        b"control In, status complete",
-        b", 9999 received of 4:",
-        forged,
-        complete,
-    )
+    let forged = busy(control(DataPhase::In, 4), after_data(9999));
+    write!(out, "control In, status complete, 9999 received of 4:")?;
+    sampled(out, Some(forged), complete)
 }
 
 pub(crate) fn bounds<W: Write>(out: &mut W) -> io::Result<()> {
     data(out)?;
     status(out)?;
-    length(out, b", wLength 4 of 4:", 4)?;
-    length(out, b", wLength 5 of 4:", 5)?;
+    length(out, 4)?;
+    length(out, 5)?;
     fields(out)?;
     received(out)
 }

@@ -1,14 +1,12 @@
 // States that are put together by hand, and what the calls answer to them.
-use printing::{print_decimal, print_text};
 use std::io;
 use std::io::Write;
-use transfers::answers::{CancelAnswer, StepAnswer};
-use transfers::control::Stepped;
+use transfers::answers::Step;
 use transfers::driver::{
-    Bulk, Control, DeskRule, Driver, InStage, Kind, OutStage, Request, Run, Stage, Transfer,
+    Bulk, Control, DeskRule, Driver, InStage, Kind, OutStage, Request, Run, Stage,
 };
 use transfers::host_controller::DataPhase;
-use transfers::refusal::{Refusal, number};
+use transfers::refusal::Refusal;
 use transfers::sample::Sample;
 use transfers::wire::Direction;
 
@@ -24,128 +22,125 @@ pub(crate) fn control(phase: DataPhase, wLength: u16) -> Kind {
     Kind::Control(Control { phase, wLength })
 }
 
-fn in_stage(status: bool, inflight: u8, offset: u16, remain: u16) -> Stage {
-    Stage::In(InStage {
-        status,
-        slot: false,
-        toarm: 0,
-        zlp: false,
-        retire: false,
-        remain,
-        offset,
-        inflight,
-    })
+// How far the packets of a stage are.
+#[derive(Clone, Copy)]
+pub(crate) struct Moved {
+    pub inflight: u8,
+    pub offset: u16,
+    pub remain: u16,
 }
 
-fn out_stage(status: bool, inflight: u8, offset: u16, remain: u16, received: u16) -> Stage {
-    Stage::Out(OutStage {
+// One packet in flight, nothing moved, and 4 bytes left.
+pub(crate) const BEGUN: Moved = Moved {
+    inflight: 1,
+    offset: 0,
+    remain: 4,
+};
+
+// A status stage's packet, which has no bytes.
+pub(crate) const EMPTY: Moved = Moved {
+    inflight: 1,
+    offset: 0,
+    remain: 0,
+};
+
+fn out_stage(status: bool, moved: Moved) -> OutStage {
+    OutStage {
         status,
         slot: false,
-        remain,
-        offset,
+        remain: moved.remain,
+        offset: moved.offset,
         zlp: false,
         retire: false,
-        inflight,
-        received,
-    })
+        inflight: moved.inflight,
+        received: 0,
+    }
 }
 
 // Packets moving IN or OUT, as the data or the status stage.
-pub(crate) fn stage(inward: bool, status: bool, inflight: u8, offset: u16, remain: u16) -> Stage {
-    if inward {
-        in_stage(status, inflight, offset, remain)
-    } else {
-        out_stage(status, inflight, offset, remain, 0)
+pub(crate) fn stage(direction: Direction, status: bool, moved: Moved) -> Stage {
+    match direction {
+        Direction::In => Stage::In(InStage {
+            status,
+            slot: false,
+            toarm: 0,
+            zlp: false,
+            retire: false,
+            remain: moved.remain,
+            offset: moved.offset,
+            inflight: moved.inflight,
+        }),
+        Direction::Out => Stage::Out(out_stage(status, moved)),
     }
 }
 
 // A control In's status stage, with so many bytes received.
 pub(crate) fn after_data(received: u16) -> Stage {
-    out_stage(true, 1, 0, 0, received)
+    Stage::Out(OutStage {
+        received,
+        ..out_stage(true, EMPTY)
+    })
 }
 
-// The buffer has 4 bytes.
-pub(crate) fn busy(address: u8, size: u8, kind: Kind, stage: Stage) -> Transfer {
-    Transfer::Busy(Run {
+// To address 5, by packets of 8 bytes. The buffer has 4 bytes.
+pub(crate) fn busy(kind: Kind, stage: Stage) -> Run {
+    Run {
         request: Request {
-            address,
-            size,
+            address: 5,
+            size: 8,
             kind,
             length: 4,
         },
         stage,
-    })
+    }
 }
 
-pub(crate) fn driver(t: Transfer) -> Driver {
-    let d = Driver::new(DeskRule::One);
-    let pipes = d.pipes;
-    let last = d.last;
+pub(crate) fn driver(transfer: Option<Run>) -> Driver {
     Driver {
-        transfer: t,
-        entries: 0,
-        pipes,
-        last,
-        rule: DeskRule::One,
+        transfer,
+        ..Driver::new(DeskRule::One)
     }
 }
 
 pub(crate) fn print_refusal<W: Write>(out: &mut W, why: Refusal) -> io::Result<()> {
-    print_text(out, b" ")?;
-    print_decimal(out, number(why) as u64)
+    write!(out, " {}", u8::from(why))
 }
 
-fn print_step<W: Write>(out: &mut W, p: Stepped) -> io::Result<()> {
-    let answer = p.answer;
+fn print_step<W: Write>(out: &mut W, answer: Result<Step, Refusal>) -> io::Result<()> {
     match answer {
-        StepAnswer::Waiting(_) => print_text(out, b" waiting"),
-        StepAnswer::Done(count) => {
-            print_text(out, b" done ")?;
-            print_decimal(out, count as u64)
-        }
-        StepAnswer::Refused(why) => print_refusal(out, why),
+        Ok(Step::Waiting(_)) => write!(out, " waiting"),
+        Ok(Step::Done(count)) => write!(out, " done {count}"),
+        Err(why) => print_refusal(out, why),
     }
 }
 
-fn print_cancel<W: Write>(out: &mut W, t: Transfer) -> io::Result<()> {
-    let d = driver(t).cancel();
-    let answer = d.answer;
+fn print_cancel<W: Write>(out: &mut W, answer: Result<(), Refusal>) -> io::Result<()> {
     match answer {
-        CancelAnswer::Cancelled => print_text(out, b" cancelled"),
-        CancelAnswer::Refused(why) => print_refusal(out, why),
+        Ok(()) => write!(out, " cancelled"),
+        Err(why) => print_refusal(out, why),
     }
 }
 
 // What `step_in`, `step_out` and `cancel` answer, each on this state.
-pub(crate) fn sampled<W: Write>(
-    out: &mut W,
-    name: &[u8],
-    what: &[u8],
-    t: Transfer,
-    sample: Sample,
-) -> io::Result<()> {
+pub(crate) fn sampled<W: Write>(out: &mut W, run: Option<Run>, sample: Sample) -> io::Result<()> {
     let mut buf = [0u8; 4];
     let mut pm = [0u8; 4096];
     let mut log = [0u32; 192];
-    print_text(out, name)?;
-    print_text(out, what)?;
-    print_step(out, driver(t).step_in(sample, &mut buf, &mut pm, &mut log))?;
-    print_step(out, driver(t).step_out(sample, &buf, &mut pm, &mut log))?;
-    print_cancel(out, t)?;
-    print_text(out, b"\n")
+    let forged = driver(run);
+    let inward = forged.step_in(sample, &mut buf, &mut pm, &mut log);
+    let outward = forged.step_out(sample, &buf, &mut pm, &mut log);
+    print_step(out, inward.answer)?;
+    print_step(out, outward.answer)?;
+    print_cancel(out, forged.cancel().answer)?;
+    writeln!(out)
 }
 
 // With nothing raised, a step that is not refused waits.
-pub(crate) fn state<W: Write>(
-    out: &mut W,
-    name: &[u8],
-    what: &[u8],
-    t: Transfer,
-) -> io::Result<()> {
+pub(crate) fn state<W: Write>(out: &mut W, run: Option<Run>) -> io::Result<()> {
     let quiet = Sample {
         status: 0,
         intr: 0,
         buffers: 0,
     };
-    sampled(out, name, what, t, quiet)
+    sampled(out, run, quiet)
 }

@@ -1,7 +1,6 @@
 // Whether two states have the same turns, shares, spent counts and frame, and callers that came with the same numbers.
-ghost use Rattle.std.specs.Prelude.{◌<◌};
-
-use dispatcher::Dispatcher;
+// By hand: a derived equality would compare more than these, and stand in four crates below, none of which uses one.
+use dispatcher::{Caller, Dispatcher};
 use host::controller::HostController;
 use host::fields::{BulkFields, ControlFields, Fields};
 
@@ -14,60 +13,33 @@ fn same_bulk(a: BulkFields, b: BulkFields) -> bool {
 }
 
 fn same_fields(a: Fields, b: Fields) -> bool {
-    match a {
-        Fields::Control(x) => {
-            let Fields::Control(y) = b else {
-                return false;
-            };
-            same_control(x, y)
-        }
-        Fields::BulkIn(x) => {
-            let Fields::BulkIn(y) = b else {
-                return false;
-            };
-            same_bulk(x, y)
-        }
-        Fields::BulkOut(x) => {
-            let Fields::BulkOut(y) = b else {
-                return false;
-            };
-            same_bulk(x, y)
-        }
+    match (a, b) {
+        (Fields::Control(x), Fields::Control(y)) => same_control(x, y),
+        (Fields::BulkIn(x), Fields::BulkIn(y)) => same_bulk(x, y),
+        (Fields::BulkOut(x), Fields::BulkOut(y)) => same_bulk(x, y),
+        _ => false,
     }
 }
 
-fn same_place(a: Dispatcher, b: Dispatcher, i: usize) -> bool
-    requires { i < 8 }
-{
-    a.pending[i] == b.pending[i]
-        && a.requested[i] == b.requested[i]
-        && a.quota[i] == b.quota[i]
-        && a.used[i] == b.used[i]
+fn same_caller(a: Caller, b: Caller) -> bool {
+    a.pending == b.pending && a.requested == b.requested && a.quota == b.quota && a.used == b.used
 }
 
-fn same_caller(a: HostController, b: HostController, i: usize) -> bool
-    requires { i < 8 }
-{
-    let s = a.submissions[i];
-    let t = b.submissions[i];
-    let x = s.fields;
-    let y = t.fields;
-    let d = a.dispatcher;
-    let e = b.dispatcher;
-    same_fields(x, y) && same_place(d, e, i)
+fn same_dispatcher(a: Dispatcher, b: Dispatcher) -> bool {
+    a.turn == b.turn
+        && a.last == b.last
+        && a.frame == b.frame
+        && a.callers
+            .iter()
+            .zip(&b.callers)
+            .all(|(x, y)| same_caller(*x, *y))
 }
 
-fn same_turn(a: Dispatcher, b: Dispatcher) -> bool {
-    a.turn == b.turn && a.last == b.last && a.frame == b.frame
+fn same_submissions(a: [Fields; 8], b: [Fields; 8]) -> bool {
+    a.iter().zip(&b).all(|(x, y)| same_fields(*x, *y))
 }
 
 pub(crate) fn is_kept(before: HostController, after: HostController) -> bool {
-    for i in 0..8usize {
-        if !same_caller(before, after, i) {
-            return false;
-        }
-    }
-    let d = before.dispatcher;
-    let e = after.dispatcher;
-    same_turn(d, e)
+    same_dispatcher(before.dispatcher, after.dispatcher)
+        && same_submissions(before.submissions, after.submissions)
 }

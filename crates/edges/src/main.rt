@@ -9,69 +9,43 @@ mod kept;
 mod shares;
 mod stages;
 
-use cutting::packetiser::{OptionArm, OutCounters};
+use cutting::packetiser::OutCounters;
 use cutting::transfer_type::TransferType;
 use pool::async_pool::{Pool, PoolIndex};
 use pool::bitset::BitSet;
-use printing::{print_decimal, print_text};
 use std::io;
 use std::io::Write;
-
-fn print<W: Write>(out: &mut W, text: &[u8], n: u64) -> io::Result<()> {
-    print_text(out, text)?;
-    print_text(out, b" ")?;
-    print_decimal(out, n)?;
-    print_text(out, b"\n")
-}
-
-fn print_word<W: Write>(out: &mut W, text: &[u8], s: BitSet) -> io::Result<()> {
-    print(out, text, s.0 as u64)
-}
-
-fn print_flag<W: Write>(out: &mut W, text: &[u8], b: bool) -> io::Result<()> {
-    print(out, text, b as u64)
-}
 
 // Number 32 of a set.
 fn bits<W: Write>(out: &mut W) -> io::Result<()> {
     let full = BitSet(0xFFFF_FFFF);
-    print_word(out, b"set 32 of none:", BitSet::new().set(32))?;
-    print_word(out, b"clear 32 of all:", full.clear(32))?;
-    print_flag(out, b"all contains 32:", full.contains(32))
+    writeln!(out, "set 32 of none: {}", BitSet::new().set(32).0)?;
+    writeln!(out, "clear 32 of all: {}", full.clear(32).0)?;
+    writeln!(out, "all contains 32: {}", full.contains(32) as u8)
 }
 
 // A total of 33, and an index that isn't allocated.
 fn pools<W: Write>(out: &mut W) -> io::Result<()> {
-    let wide = Pool::new(33);
-    print(out, b"pool of 33:", wide.total as u64)?;
-    let one = Pool::new(1);
-    let freed = one.free(PoolIndex(0));
-    print_flag(out, b"free 0 of a fresh pool:", freed.was)
-}
-
-fn packet<W: Write>(out: &mut W, text: &[u8], kind: TransferType, length: u16) -> io::Result<()> {
-    let counters = OutCounters::new(kind, 0, false, length);
-    let next = counters.next_packet();
-    let arm = next.arm;
-    match arm {
-        OptionArm::Some(a) => print(out, text, a.length as u64),
-        OptionArm::None => {
-            print_text(out, text)?;
-            print_text(out, b" no packet\n")
-        }
-    }
+    writeln!(out, "pool of 33: {}", Pool::new(33).total)?;
+    let freed = Pool::new(1).free(PoolIndex(0));
+    writeln!(out, "free 0 of a fresh pool: {}", freed.was as u8)
 }
 
 // A packet size of 0.
+fn packet<W: Write>(out: &mut W, kind: TransferType, length: u16) -> io::Result<()> {
+    match OutCounters::new(kind, 0, false, length).next_packet().arm {
+        Some(arm) => writeln!(out, " {}", arm.length),
+        None => writeln!(out, " no packet"),
+    }
+}
+
 fn packets<W: Write>(out: &mut W) -> io::Result<()> {
-    packet(
-        out,
-        b"0 bytes at 0, variable:",
-        TransferType::VariableSize,
-        0,
-    )?;
-    packet(out, b"0 bytes at 0, fixed:", TransferType::FixedSize, 0)?;
-    packet(out, b"1 byte at 0, fixed:", TransferType::FixedSize, 1)
+    write!(out, "0 bytes at 0, variable:")?;
+    packet(out, TransferType::VariableSize, 0)?;
+    write!(out, "0 bytes at 0, fixed:")?;
+    packet(out, TransferType::FixedSize, 0)?;
+    write!(out, "1 byte at 0, fixed:")?;
+    packet(out, TransferType::FixedSize, 1)
 }
 
 fn print_all<W: Write>(out: &mut W) -> io::Result<()> {
@@ -85,6 +59,5 @@ fn print_all<W: Write>(out: &mut W) -> io::Result<()> {
 }
 
 fn main(rt: HostRuntime) -> io::Result<()> {
-    let mut out = rt.stdout();
-    print_all(&mut out)
+    print_all(&mut rt.stdout())
 }

@@ -2,10 +2,10 @@
 use mathlib.Core.Path.{◌≡◌, refl, ap, ap₂, sym, subst, ◌∙◌}
 use mathlib.Core.Bool.{Bool, false}
 use mathlib.Core.List.{List, [], ◌∷◌, ◌++◌, append_assoc, append-nil}
-use Prim.Native.Nat.{ℕ, ◌+◌, ◌*◌, ◌≤◌, ◌<◌}
+use Prim.Native.Nat.{ℕ, ◌+◌, ◌*◌, ◌≤◌}
 use native.Mathlib.Omega.{arith}
 use lib.Seq.{sets, length-sets}
-use lib.ListN.{length, drop, length-append, length-drop, drop_of_length-le}
+use lib.ListN.{length, drop, length-append, length-drop}
 use Rattle.pool.proofs.Stores.{sets_append}
 use Rattle.packet.proofs.Written.{length_encode}
 use Rattle.packet.specs.Packet.{Packet, token, payload, encode}
@@ -17,38 +17,47 @@ use Rattle.record.specs.Place.{ElementInRange}
 use Rattle.record.specs.Reader.{look}
 use Rattle.record.specs.Verdict.{AllRanged, Whole}
 use Rattle.record.specs.declared.look.Look.{Look}
-use Rattle.record.specs.declared.look.Look.TheVariants.{Setup, Out, Failed, Bad, End}
+use Rattle.record.specs.declared.look.Look.TheVariants.{Setup, Out, Failed}
+use Rattle.record.specs.declared.refusal.Refusal.{Refusal}
+use Rattle.std.specs.Prelude.{Option, Some, None, Result, Ok, Err}
 use Rattle.record.proofs.Decoding.{look_element, look_element_lem}
-use Rattle.record.proofs.Looking.{setup_inside, out_inside, failed_inside}
+use Rattle.record.proofs.Looking.{setup_at, out_at, failed_at}
 use Rattle.record.proofs.Handing.{after_all, drop_record}
-use Rattle.record.proofs.Verdicts.{reads_ranged, encode_some}
+use Rattle.record.proofs.Verdicts.{reads_ranged}
 use Rattle.export.specs.Export.{packets_of, packets_in, encode_packets, export_of}
 use Rattle.export.specs.Walk.{lengths_at, Put}
 use Rattle.export.specs.declared.Lengths.{Lengths}
 
 -- ---- an entry's lengths
 
--- The entry at a position lies inside.
-pub inside : (s : List ℕ) (at : ℕ) → at ≤ length s → at + (lengths_at (look (drop at s))).entry ≤ length s
-inside s at h = go (look (drop at s)) refl
+-- The entry at a position has some bytes and lies inside, and its packets have at most twice its bytes.
+pub record Bounds (s : List ℕ) (at : ℕ) (l : Lengths) : Type 0 where
+  pub some : 1 ≤ l.entry
+  pub inside : at + l.entry ≤ length s
+  pub twice : l.token + l.payload ≤ 2 * l.entry
+
+pub bounds : (s : List ℕ) (at : ℕ) (l : Lengths) → lengths_at (look (drop at s)) ≡ Some l → Bounds s at l
+bounds s at l e = go (look (drop at s)) refl e
   where
-    size : length (drop at s) + at ≡ length s
-    size = omega (arith, length-drop at s)
+    same : (m : Lengths) → Some m ≡ Some l → Bounds s at m → Bounds s at l
+    same m q h = subst (Bounds s at) (let z : m ≡ l = cc in z) h
 
-    go : (l : Look) → look (drop at s) ≡ l → at + (lengths_at l).entry ≤ length s
-    go (Setup a w) e = omega (arith, setup_inside (drop at s) a w e, size)
-    go (Out x) e = omega (arith, out_inside (drop at s) x e, size)
-    go (Failed m) e = omega (arith, failed_inside (drop at s) m e, size)
-    go Bad e = omega arith
-    go End e = omega arith
+    go : (y : Result (Option Look) Refusal) → look (drop at s) ≡ y → lengths_at y ≡ Some l → Bounds s at l
+    go (Ok (Some (Setup a w))) e q = same _ q (record { some = omega arith; inside = setup_at s at a w e; twice = omega arith })
+    go (Ok (Some (Out x))) e q = same _ q (record { some = omega arith; inside = out_at s at x e; twice = omega arith })
+    go (Ok (Some (Failed m))) e q = same _ q (record { some = omega arith; inside = failed_at s at m e; twice = omega arith })
+    go (Ok None) e q = absurd (let z : ◌≡◌ {A = ℕ} 0 1 = cc in omega arith)
+    go (Err why) e q = absurd (let z : ◌≡◌ {A = ℕ} 0 1 = cc in omega arith)
 
--- Packets have at most twice the bytes of their entry.
-pub at_most_twice : (l : Look) → (lengths_at l).token + (lengths_at l).payload ≤ 2 * (lengths_at l).entry
-at_most_twice (Setup a w) = omega arith
-at_most_twice (Out x) = omega arith
-at_most_twice (Failed m) = omega arith
-at_most_twice Bad = omega arith
-at_most_twice End = omega arith
+-- The same, each for itself.
+pub entry_some : (s : List ℕ) (at : ℕ) (l : Lengths) → lengths_at (look (drop at s)) ≡ Some l → 1 ≤ l.entry
+entry_some s at l e = (bounds s at l e).some
+
+pub entry_inside : (s : List ℕ) (at : ℕ) (l : Lengths) → lengths_at (look (drop at s)) ≡ Some l → at + l.entry ≤ length s
+entry_inside s at l e = (bounds s at l e).inside
+
+pub packets_twice : (s : List ℕ) (at : ℕ) (l : Lengths) → lengths_at (look (drop at s)) ≡ Some l → l.token + l.payload ≤ 2 * l.entry
+packets_twice s at l e = (bounds s at l e).twice
 
 pub packets_append : (a b : List Packet) → encode_packets (a ++ b) ≡ encode_packets a ++ encode_packets b
 unfolding encode_packets
@@ -65,21 +74,23 @@ pair_length p q = ap length (pair_bytes p q) ∙ length-append (encode p) (encod
 
 -- What the lengths at an entry are.
 record Measured (m : Element) : Type 0 where
-  entry_is : (lengths_at (look_element m)).entry ≡ length (encode_element m)
-  packets_are : (lengths_at (look_element m)).token + (lengths_at (look_element m)).payload ≡ length (encode_packets (packets_of m))
-  some : 1 ≤ (lengths_at (look_element m)).entry
+  lengths : Lengths
+  is : lengths_at (look_element m) ≡ Some lengths
+  entry_is : lengths.entry ≡ length (encode_element m)
+  packets_are : lengths.token + lengths.payload ≡ length (encode_packets (packets_of m))
+  twice : lengths.token + lengths.payload ≤ 2 * lengths.entry
 
 measured : (m : Element) → Measured m
 unfolding encode_packets
 measured (entry (setup a (four b0 b1 b2 b3) (four b4 b5 b6 b7))) =
     let p = token setup_token a 0 in
     let q = payload false (b0 ∷ b1 ∷ b2 ∷ b3 ∷ b4 ∷ b5 ∷ b6 ∷ b7 ∷ []) in
-    record { entry_is = refl; packets_are = omega (arith, pair_length p q, length_encode p, length_encode q); some = omega arith }
+    record { lengths = record { entry = 10; token = 3; payload = 11 }; is = refl; entry_is = refl; packets_are = omega (arith, pair_length p q, length_encode p, length_encode q); twice = omega arith }
 measured (entry (out a e pid last l)) =
     let p = token out_token a e in
     let q = payload pid l in
-    record { entry_is = omega arith; packets_are = omega (arith, pair_length p q, length_encode p, length_encode q); some = omega arith }
-measured (failed_entry n) = record { entry_is = refl; packets_are = refl; some = omega arith }
+    record { lengths = record { entry = 6 + length l; token = 3; payload = 3 + length l }; is = refl; entry_is = omega arith; packets_are = omega (arith, pair_length p q, length_encode p, length_encode q); twice = omega arith }
+measured (failed_entry n) = record { lengths = record { entry = 5; token = 0; payload = 0 }; is = refl; entry_is = refl; packets_are = refl; twice = omega arith }
 
 -- ---- entries one after another
 
@@ -116,33 +127,38 @@ start s w = record {
   size = refl;
 }
 
--- The next entry.
-pub record Stepped (ms : List Element) (s : List ℕ) (at n : ℕ) (k : Walked ms s at n) : Type 0 where
+-- The next entry, by its lengths.
+pub record Stepped (ms : List Element) (s : List ℕ) (at n : ℕ) (k : Walked ms s at n) (l : Lengths) : Type 0 where
   pub m : Element
   pub post : List ℕ
   pub in_range : ElementInRange m
   pub here : drop at s ≡ encode_element m ++ post
-  pub size : (lengths_at (look (drop at s))).token + (lengths_at (look (drop at s))).payload ≡ length (encode_packets (packets_of m))
+  pub size : l.token + l.payload ≡ length (encode_packets (packets_of m))
   pub room : n + length (encode_packets (packets_of m)) ≤ length (export_of ms)
-  pub next : Walked ms s (at + (lengths_at (look (drop at s))).entry) (n + ((lengths_at (look (drop at s))).token + (lengths_at (look (drop at s))).payload))
+  pub next : Walked ms s (at + l.entry) (n + (l.token + l.payload))
   pub done_is : next.done ≡ k.done ++ (m ∷ [])
 
 -- Bytes of no entry.
-none_seen : (l : List ℕ) → l ≡ [] → (lengths_at (look l)).entry ≡ 0
+none_seen : (l : List ℕ) → l ≡ [] → lengths_at (look l) ≡ None
 unfolding look
-none_seen l e = ap (λ (x : List ℕ). (lengths_at (look x)).entry) e
+none_seen l e = ap (λ (x : List ℕ). lengths_at (look x)) e
 
-pub step : (ms : List Element) (s : List ℕ) (at n : ℕ) (k : Walked ms s at n) → ((lengths_at (look (drop at s))).entry ≡ 0 → ⊥) → Stepped ms s at n k
+-- What stands where an entry does.
+seen_at : (s : List ℕ) (at : ℕ) (m : Element) (post : List ℕ) → ElementInRange m → drop at s ≡ encode_element m ++ post → lengths_at (look (drop at s)) ≡ Some (measured m).lengths
+seen_at s at m post r h = ap lengths_at (ap look h ∙ look_element_lem m post r) ∙ (measured m).is
+
+pub step : (ms : List Element) (s : List ℕ) (at n : ℕ) (k : Walked ms s at n) (l : Lengths) → lengths_at (look (drop at s)) ≡ Some l → Stepped ms s at n k l
 unfolding encode_elements
-step ms s at n k some = go k.rest k.split k.here k.ranged
+step ms s at n k l some = go k.rest k.split k.here k.ranged
   where
-    go : (rest : List Element) → k.done ++ rest ≡ ms → drop at s ≡ encode_elements rest → AllRanged k.two rest → Stepped ms s at n k
-    go [] e h r = absurd (some (none_seen (drop at s) h))
+    go : (rest : List Element) → k.done ++ rest ≡ ms → drop at s ≡ encode_elements rest → AllRanged k.two rest → Stepped ms s at n k l
+    go [] e h r = absurd (let z = sym (none_seen (drop at s) h) ∙ some in let y : ◌≡◌ {A = ℕ} 0 1 = cc in omega arith)
     go (m ∷ rest) e h r =
-        let seen : look (drop at s) ≡ look_element m = ap look h ∙ look_element_lem m (encode_elements rest) r.0.0 in
         let f = measured m in
-        let size : (lengths_at (look (drop at s))).token + (lengths_at (look (drop at s))).payload ≡ length (encode_packets (packets_of m)) = ap (λ (l : Look). (lengths_at l).token + (lengths_at l).payload) seen ∙ f.packets_are in
-        let entry_is : (lengths_at (look (drop at s))).entry ≡ length (encode_element m) = ap (λ (l : Look). (lengths_at l).entry) seen ∙ f.entry_is in
+        let z = sym (seen_at s at m (encode_elements rest) r.0.0 h) ∙ some in
+        let same : f.lengths ≡ l = cc in
+        let size : l.token + l.payload ≡ length (encode_packets (packets_of m)) = ap (λ (x : Lengths). x.token + x.payload) (sym same) ∙ f.packets_are in
+        let entry_is : l.entry ≡ length (encode_element m) = ap (λ (x : Lengths). x.entry) (sym same) ∙ f.entry_is in
         let more = export_more k.done m in
         let joined : (k.done ++ (m ∷ [])) ++ rest ≡ ms = append_assoc k.done (m ∷ []) rest ∙ e in
         let count : length (export_of ms) ≡ length (export_of k.done) + length (encode_packets (packets_of m)) + length (export_of rest) =
@@ -167,46 +183,18 @@ step ms s at n k some = go k.rest k.split k.here k.ranged
           done_is = refl;
         }
 
-none_left : (rest : List Element) → encode_elements rest ≡ [] → rest ≡ []
+-- Where no entry stands, all are done.
+pub all_done : (ms : List Element) (s : List ℕ) (at n : ℕ) (k : Walked ms s at n) → lengths_at (look (drop at s)) ≡ None → k.done ≡ ms
 unfolding encode_elements
-none_left [] e = refl
-none_left (m ∷ rest) e = absurd (omega (arith, encode_some m, ap length e, length-append (encode_element m) (encode_elements rest)))
-
--- At the end all entries are done.
-pub all_done : (ms : List Element) (s : List ℕ) (at n : ℕ) (k : Walked ms s at n) → length s ≤ at → k.done ≡ ms
-all_done ms s at n k h =
-    sym (append-nil k.done) ∙ ap (λ (r : List Element). k.done ++ r) (sym (none_left k.rest (sym k.here ∙ drop_of_length-le s h))) ∙ k.split
-
--- Before the end an entry stands there.
-pub never_stuck : (ms : List Element) (s : List ℕ) (at n : ℕ) → Walked ms s at n → at < length s → (lengths_at (look (drop at s))).entry ≡ 0 → ⊥
-unfolding encode_elements
-never_stuck ms s at n k h e = go k.rest k.here k.ranged
+all_done ms s at n k none = go k.rest k.split k.here k.ranged
   where
-    go : (rest : List Element) → drop at s ≡ encode_elements rest → AllRanged k.two rest → ⊥
-    go [] q r = omega (arith, ap length q, length-drop at s)
-    go (m ∷ rest) q r =
-        let seen : look (drop at s) ≡ look_element m = ap look q ∙ look_element_lem m (encode_elements rest) r.0.0 in
-        omega (arith, (measured m).some, e, ap (λ (l : Look). (lengths_at l).entry) seen)
+    go : (rest : List Element) → k.done ++ rest ≡ ms → drop at s ≡ encode_elements rest → AllRanged k.two rest → k.done ≡ ms
+    go [] e h r = sym (append-nil k.done) ∙ e
+    go (m ∷ rest) e h r = absurd (let z = sym (seen_at s at m (encode_elements rest) r.0.0 h) ∙ none in let y : ◌≡◌ {A = ℕ} 0 1 = cc in omega arith)
 
--- ---- by the lengths that were answered
-
-module _ (s : List ℕ) (at : ℕ) (r : Lengths) (e : r ≡ lengths_at (look (drop at s))) where
-  -- They are small enough to add.
-  pub bounds : at < length s → (r.token + r.payload ≤ 2 * r.entry) × (at + r.entry ≤ length s)
-  bounds h =
-      subst (λ (l : Lengths). (l.token + l.payload ≤ 2 * l.entry) × (at + l.entry ≤ length s)) (sym e)
-      (at_most_twice (look (drop at s)), inside s at (omega arith))
-
-  some_there : (r.entry ≡ 0 → ⊥) → (lengths_at (look (drop at s))).entry ≡ 0 → ⊥
-  some_there h z = h (ap (λ (l : Lengths). l.entry) e ∙ z)
-
-  pub step_on : (ms : List Element) (n : ℕ) → Walked ms s at n → (r.entry ≡ 0 → ⊥) → Walked ms s (at + r.entry) (n + (r.token + r.payload))
-  step_on ms n k h =
-      subst (λ (l : Lengths). Walked ms s (at + l.entry) (n + (l.token + l.payload))) (sym e)
-      (step ms s at n k (some_there h)).next
-
-  pub never : (ms : List Element) (n : ℕ) → Walked ms s at n → at < length s → r.entry ≡ 0 → ⊥
-  never ms n k h z = never_stuck ms s at n k h (ap (λ (l : Lengths). l.entry) (sym e) ∙ z)
+-- One entry more.
+pub step_on : (ms : List Element) (s : List ℕ) (at n : ℕ) (l : Lengths) → lengths_at (look (drop at s)) ≡ Some l → Walked ms s at n → Walked ms s (at + l.entry) (n + (l.token + l.payload))
+step_on ms s at n l e k = (step ms s at n k l e).next
 
 -- The packets of what is done stand at the start of the lent bytes.
 pub record Stored (ms : List Element) (s : List ℕ) (at used : ℕ) (l₀ l : List ℕ) : Type 0 where
@@ -218,12 +206,12 @@ unfolding encode_packets start
 store_start s l w = record { walked = start s w; bytes = refl }
 
 -- The packets of one entry more.
-pub store_on : (ms : List Element) (s : List ℕ) (at used used' : ℕ) (l₀ l l' : List ℕ) (r : Lengths) → r ≡ lengths_at (look (drop at s)) → (r.entry ≡ 0 → ⊥)
+pub store_on : (ms : List Element) (s : List ℕ) (at used used' : ℕ) (l₀ l l' : List ℕ) (r : Lengths) → lengths_at (look (drop at s)) ≡ Some r
     → Stored ms s at used l₀ l → length (export_of ms) ≤ length l₀
     → ((m : Element) (post : List ℕ) → ElementInRange m → drop at s ≡ encode_element m ++ post → used + length (encode_packets (packets_of m)) ≤ length l → Put (packets_of m) l used used' l')
     → Stored ms s (at + r.entry) used' l₀ l'
-store_on ms s at used used' l₀ l l' r e h k room put =
-    let st = step ms s at used k.walked (some_there s at r e h) in
+store_on ms s at used used' l₀ l l' r e k room put =
+    let st = step ms s at used k.walked r e in
     let same : length l ≡ length l₀ = ap length k.bytes ∙ length-sets l₀ 0 (export_of k.walked.done) in
     let p = put st.m st.post st.in_range st.here (omega (arith, st.room, same)) in
     let pk = encode_packets (packets_of st.m) in
@@ -234,7 +222,7 @@ store_on ms s at used used' l₀ l l' r e h k room put =
         rest = st.next.rest;
         two = st.next.two;
         split = st.next.split;
-        here = ap (λ (x : Lengths). drop (at + x.entry) s) e ∙ st.next.here;
+        here = st.next.here;
         ranged = st.next.ranged;
         size = p.next ∙ ap (λ (i : ℕ). used + i) (sym st.size) ∙ st.next.size;
       };
@@ -249,7 +237,7 @@ unfolding encode_elements encode_packets
 export_small [] = omega arith
 export_small (m ∷ ms) =
     let f = measured m in
-    omega (arith, at_most_twice (look_element m), f.entry_is, f.packets_are, export_small ms, ap length (packets_append (packets_of m) (packets_in ms)), length-append (encode_packets (packets_of m)) (export_of ms), length-append (encode_element m) (encode_elements ms))
+    omega (arith, f.twice, f.entry_is, f.packets_are, export_small ms, ap length (packets_append (packets_of m) (packets_in ms)), length-append (encode_packets (packets_of m)) (export_of ms), length-append (encode_element m) (encode_elements ms))
 
 pub fits_twice : (s : List ℕ) (w : Whole s) → length (export_of w.ms) ≤ 2 * length s
 fits_twice s w =

@@ -11,22 +11,15 @@ ghost use Rattle.record.specs.Segments.{Element};
 ghost use Rattle.record.specs.Verdict.{Whole};
 ghost use Rattle.export.specs.Export.{packets_of, packets_in, encode_packets, export_of};
 ghost use Rattle.export.specs.Exported.{Exported, export_reply, export_row, exported_in};
-ghost use Rattle.export.specs.Walk.{lengths_at, used_after, Put};
+ghost use Rattle.export.specs.Walk.{lengths_at, Put};
 
 use packet::packet::Token;
-use packet::writer::{WriteAnswer, write_data, write_token};
+use packet::writer::{write_data, write_token};
 use record::look::{Look, look_at};
-use record::reader::{CheckAnswer, check};
+use record::reader::check;
 use record::refusal::Refusal;
 
-// How many bytes were written.
-#[derive(Clone, Copy)]
-pub enum ExportAnswer {
-    Used(usize),
-    Refused(Refusal),
-}
-
-// How many bytes the entry at a position has, and its token and data packet; all 0 where there is no entry.
+// How many bytes an entry has, and its token and data packet.
 #[derive(Clone, Copy)]
 pub struct Lengths {
     pub entry: usize,
@@ -34,67 +27,45 @@ pub struct Lengths {
     pub payload: usize,
 }
 
-pub fn lengths_at(s: &[u8], at: usize) -> Lengths
+// Those of the entry at a position, if one stands there.
+pub fn lengths_at(s: &[u8], at: usize) -> Option<Lengths>
     ensures { result ≡ lengths_at (look (drop at s.now)) }
 {
-    let l = look_at(s, at);
-    match l {
-        Look::Setup(_, _) => Lengths {
+    match look_at(s, at) {
+        Ok(Some(Look::Setup(_, _))) => Some(Lengths {
             entry: 10,
             token: 3,
             payload: 11,
-        },
-        Look::Out(x) => Lengths {
+        }),
+        Ok(Some(Look::Out(x))) => Some(Lengths {
             entry: 6 + x.length as usize,
             token: 3,
             payload: 3 + x.length as usize,
-        },
-        Look::Failed(_) => Lengths {
+        }),
+        Ok(Some(Look::Failed(_))) => Some(Lengths {
             entry: 5,
             token: 0,
             payload: 0,
-        },
-        Look::Bad => Lengths {
-            entry: 0,
-            token: 0,
-            payload: 0,
-        },
-        Look::End => Lengths {
-            entry: 0,
-            token: 0,
-            payload: 0,
-        },
+        }),
+        _ => None,
     }
 }
 
-// How many bytes all packets have.
+// How many bytes all packets have: a walk of its own, since nothing is stored where they don't fit. An entry's length tells the next position.
+#[tactic(auto, using(crate::proofs::Walking::entry_some, crate::proofs::Walking::entry_inside, crate::proofs::Walking::packets_twice))]
 fn packets_length(s: &[u8]) -> usize
     ensures { (w : Whole s.now) → result ≡ length (export_of w.ms) }
 {
     let mut at: usize = 5;
     let mut n: usize = 0;
-    while at < s.len() {
-        let l = lengths_at(s, at);
-        if l.entry == 0 {
-            return n;
-        }
-        n = n + (l.token + l.payload);
-        at = at + l.entry;
+    while let Some(l) = lengths_at(s, at) {
+        n += l.token + l.payload;
+        at += l.entry;
     }
     n
 }
 
-// The bytes used after a write.
-fn used_after(answer: WriteAnswer, used: usize) -> usize
-    ensures { result ≡ used_after answer used }
-{
-    match answer {
-        WriteAnswer::Used(n) => n,
-        WriteAnswer::Refused(_) => used,
-    }
-}
-
-// A token and its data packet.
+// A token and its data packet. The lent bytes and the count of those used stay two parameters, as `write_token` takes them.
 fn put_pair(
     kind: Token,
     address: u8,
@@ -107,10 +78,8 @@ fn put_pair(
     ensures { address ≤ 127 → endpoint ≤ 15 → length bytes.now ≤ 64 → used + (6 + length bytes.now) ≤ length out.old
         → Put (tokenPacket kind address endpoint ∷ dataPacket second bytes.now ∷ []) out.old used result out.new }
 {
-    let token = write_token(kind, address, endpoint, out, used);
-    let next = used_after(token, used);
-    let data = write_data(second, bytes, out, next);
-    used_after(data, next)
+    let next = write_token(kind, address, endpoint, out, used).unwrap_or(used);
+    write_data(second, bytes, out, next).unwrap_or(next)
 }
 
 // The packets of the entry at a position.
@@ -120,8 +89,10 @@ fn put_entry(s: &[u8], at: usize, out: &mut [u8], used: usize) -> usize
         → used + length (encode_packets (packets_of m)) ≤ length out.old
         → Put (packets_of m) out.old used result out.new }
 {
-    let l = look_at(s, at);
-    match l {
+    let Ok(Some(entry)) = look_at(s, at) else {
+        return used;
+    };
+    match entry {
         Look::Setup(a, _) => put_pair(Token::Setup, a, 0, false, &s[at + 2..at + 10], out, used),
         Look::Out(x) => put_pair(
             Token::Out,
@@ -133,47 +104,39 @@ fn put_entry(s: &[u8], at: usize, out: &mut [u8], used: usize) -> usize
             used,
         ),
         Look::Failed(_) => used,
-        Look::Bad => used,
-        Look::End => used,
     }
 }
 
-// The packets of all entries.
+// The packets of all entries. As above, an entry's length tells the next position.
+#[tactic(auto, using(crate::proofs::Walking::entry_some, crate::proofs::Walking::entry_inside, crate::proofs::Walking::packets_twice))]
 fn put_packets(s: &[u8], out: &mut [u8]) -> usize
     ensures { (w : Whole s.now) → length (export_of w.ms) ≤ length out.old → Put (packets_in w.ms) out.old 0 result out.new }
 {
     let mut at: usize = 5;
     let mut used: usize = 0;
-    while at < s.len() {
-        let l = lengths_at(s, at);
-        if l.entry == 0 {
-            return used;
-        }
+    while let Some(l) = lengths_at(s, at) {
         used = put_entry(s, at, out, used);
-        at = at + l.entry;
+        at += l.entry;
     }
     used
 }
 
 // A record that the reader accepts.
-fn export_whole(s: &[u8], out: &mut [u8]) -> ExportAnswer
+fn export_whole(s: &[u8], out: &mut [u8]) -> Result<usize, Refusal>
     ensures { (w : Whole s.now)
         → (export_reply result ≡ export_row w.ms (length out.old)) × (out.new ≡ exported_in w.ms out.old) }
 {
     let n = packets_length(s);
     if out.len() < n {
-        return ExportAnswer::Refused(Refusal::Room);
+        return Err(Refusal::Room);
     }
-    ExportAnswer::Used(put_packets(s, out))
+    Ok(put_packets(s, out))
 }
 
 // Writes the packets of a record's entries, one after another from the first lent byte on.
-pub fn export(s: &[u8], out: &mut [u8]) -> ExportAnswer
+pub fn export(s: &[u8], out: &mut [u8]) -> Result<usize, Refusal>
     ensures { Bytes s.now → Exported s.now out.old result out.new }
 {
-    let verdict = check(s);
-    match verdict {
-        CheckAnswer::Refused(why) => ExportAnswer::Refused(why),
-        CheckAnswer::Transfers(_) => export_whole(s, out),
-    }
+    check(s)?;
+    export_whole(s, out)
 }

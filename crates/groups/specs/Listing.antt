@@ -1,9 +1,8 @@
 -- The list as bytes, and what the call answers and leaves: "It refuses with 35 an n above 6, then with 21 lent bytes too few."
-use Rattle.std.specs.Prelude.{◌≡◌, cond, ◌&&◌, List, [], ◌∷◌, ◌++◌, ℕ, leb, length}
+use Rattle.std.specs.Prelude.{◌≡◌, cond, ◌&&◌, List, [], ◌∷◌, ◌++◌, ℕ, leb, length, Err, Ok, Result}
 use Rattle.std.proofs.lemmas.List.Edits.{sets}
 use Rattle.transfers.specs.Reply.{Reply, result, number}
-use Rattle.groups.specs.declared.GroupsAnswer.{GroupsAnswer}
-use Rattle.groups.specs.declared.GroupsAnswer.TheVariants.{Used, Refused}
+use Rattle.groups.specs.declared.Refusal.{Refusal}
 use Rattle.groups.specs.Groups.{groups_to}
 use Rattle.groups.specs.Refusal.{number_of}
 
@@ -17,9 +16,9 @@ abbrev pub list_bytes : ℕ → List ℕ
 list_bytes n = bytes_of (groups_to n)
 
 -- How many bytes were written, or a number.
-abbrev pub groups_reply : GroupsAnswer → Reply ℕ
-groups_reply (Used k) = result k
-groups_reply (Refused why) = number (number_of why)
+abbrev pub groups_reply : Result ℕ Refusal → Reply ℕ
+groups_reply (Ok k) = result k
+groups_reply (Err why) = number (number_of why)
 
 -- The answer for n and a room.
 abbrev pub groups_row : ℕ → ℕ → Reply ℕ
@@ -30,6 +29,6 @@ abbrev pub listed_in : ℕ → List ℕ → List ℕ
 listed_in n out = cond (leb n 6 && leb (length (list_bytes n)) (length out)) (sets out 0 (list_bytes n)) out
 
 -- The groups were listed.
-pub record Listed (n : ℕ) (out : List ℕ) (r : GroupsAnswer) (out' : List ℕ) : Type 0 where
+pub record Listed (n : ℕ) (out : List ℕ) (r : Result ℕ Refusal) (out' : List ℕ) : Type 0 where
   pub answer : groups_reply r ≡ groups_row n (length out)
   pub bytes : out' ≡ listed_in n out

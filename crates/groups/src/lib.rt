@@ -1,8 +1,7 @@
 // Every short group, in order: each as its packet count and then its packets' lengths.
 #![tactic(auto)]
 
-ghost use Rattle.std.specs.Prelude.{◌≡◌, ◌≤◌, length, take};
-ghost use Rattle.std.proofs.lemmas.List.Edits.{sets};
+ghost use Rattle.std.specs.Prelude.{◌≡◌, ◌≤◌, length};
 ghost use Rattle.groups.specs.Listing.{list_bytes, Listed};
 ghost use Rattle.groups.specs.Refusal.{number_of};
 
@@ -11,13 +10,6 @@ ghost use Rattle.groups.specs.Refusal.{number_of};
 pub enum Refusal {
     Limit,
     Room,
-}
-
-// How many bytes were written, or why none.
-#[derive(Clone, Copy)]
-pub enum GroupsAnswer {
-    Used(usize),
-    Refused(Refusal),
 }
 
 // "a limit n of 0 to 6 bytes"
@@ -35,12 +27,14 @@ const LIST: [u8; 132] = [
 // How many bytes of the list the groups of at most n bytes take.
 const ENDS: [u8; 7] = [2, 7, 19, 36, 62, 90, 132];
 
-pub fn number(refusal: Refusal) -> u8
-    ensures { result ≡ number_of refusal }
-{
-    match refusal {
-        Refusal::Limit => 35,
-        Refusal::Room => 21,
+impl From<Refusal> for u8 {
+    ghost from_gives = { λ why n. n ≡ number_of why };
+
+    fn from(why: Refusal) -> u8 {
+        match why {
+            Refusal::Limit => 35,
+            Refusal::Room => 21,
+        }
     }
 }
 
@@ -51,28 +45,18 @@ fn end_of(n: u8) -> usize
     ENDS[n as usize] as usize
 }
 
-// The first k bytes of the list. It is lent, so that it is not built anew for each byte.
-fn put_first(list: &[u8], k: usize, out: &mut [u8])
-    requires { (list.now ≡ list_bytes 6) × (k ≤ length list.now) × (k ≤ length out.old) }
-    ensures { out.new ≡ sets out.old 0 (take k (list_bytes 6)) }
-{
-    for i in 0..k {
-        out[i] = list[i];
-    }
-}
-
 // Lists the groups of at most n bytes, from the first lent byte on.
 #[tactic(auto, using(crate::proofs::Above::above_limit))]
-pub fn short_groups(n: u8, out: &mut [u8]) -> GroupsAnswer
+pub fn short_groups(n: u8, out: &mut [u8]) -> Result<usize, Refusal>
     ensures { Listed n out.old result out.new }
 {
     if MAX_LIMIT < n {
-        return GroupsAnswer::Refused(Refusal::Limit);
+        return Err(Refusal::Limit);
     }
     let k = end_of(n);
     if out.len() < k {
-        return GroupsAnswer::Refused(Refusal::Room);
+        return Err(Refusal::Room);
     }
-    put_first(&LIST, k, out);
-    GroupsAnswer::Used(k)
+    out[..k].copy_from_slice(&LIST[..k]);
+    Ok(k)
 }

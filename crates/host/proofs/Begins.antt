@@ -1,18 +1,15 @@
 -- A start is refused, or begins what its caller came with. Assumes nothing.
-use mathlib.Core.Path.{◌≡◌, refl, sym, ap, subst, ◌∙◌}
-use mathlib.Core.Bool.{Bool, true, false, cond, ◌&&◌, true≢false}
+use Rattle.std.specs.Prelude.{Err, None, Ok, Option, Result, Some, is_ok}
+use mathlib.Core.Path.{◌≡◌, refl, sym, ap, ◌∙◌}
+use mathlib.Core.Bool.{Bool, true, false, cond, ◌&&◌}
 use mathlib.Core.List.{List}
 use Prim.Native.Nat.{ℕ, ◌<◌}
 use native.Mathlib.Omega.{arith}
 use lib.ListN.{length}
 use lib.Dec.{eqb, leb}
-use borrow.Author.Tests.{eqb-true}
+use Rattle.std.proofs.lemmas.Bool.{eqb-true, and_parts}
 use Rattle.transfers.specs.declared.refusal.Refusal.{Refusal}
 use Rattle.transfers.specs.declared.refusal.Refusal.TheVariants.{LentMemory, State}
-use Rattle.transfers.specs.declared.refusal.OptionRefusal.{OptionRefusal}
-use Rattle.transfers.specs.declared.refusal.OptionRefusal.TheVariants.{Some, None}
-use Rattle.transfers.specs.declared.answers.BeginAnswer.TheVariants.{Begun as accepted}
-use Rattle.transfers.specs.declared.driver.Transfer.{Transfer}
 use Rattle.transfers.specs.Memory.{lent_fits}
 use Rattle.transfers.specs.State.{address_good, endpoint_good, size_good}
 use Rattle.transfers.specs.Calls.{is_idle, fields_refusal, Beginning, begin_refusal, begin_or, begins_control, bulk_request, begins_bulk_in, begins_bulk_out, begin_control_of, begin_bulk_in_of, begin_bulk_out_of}
@@ -20,58 +17,48 @@ use Rattle.transfers.specs.declared.wire.Direction.TheVariants.{In, Out}
 use Rattle.dispatcher.specs.declared.Dispatcher.{Dispatcher}
 use Rattle.dispatcher.specs.Dispatcher.{pending_at, has_room, whose}
 use Rattle.dispatcher.proofs.Rounds.{below}
+use Rattle.dispatcher.proofs.Rooms.{kept_frame}
 use Rattle.host.specs.declared.fields.Fields.{Fields}
 use Rattle.host.specs.declared.fields.Fields.TheVariants.{Control, BulkIn, BulkOut}
 use Rattle.host.specs.declared.controller.HostController.{HostController}
 use Rattle.host.specs.declared.start.NextStart.{NextStart}
-use Rattle.host.specs.declared.start.OptionStart.TheVariants.{Ready, Unready}
 use Rattle.host.specs.Fields.{length_of, requested_of, fields_refused}
-use Rattle.host.specs.Controller.{idle, fields_at, observed, turn_of}
-use Rattle.host.specs.Start.{StartKind, of_kind, is_none, may_start, Starting, refuses_start, beginning_of, starts_as, start_if, start_lent, start_of}
+use Rattle.host.specs.Controller.{idle, dispatcher_now, fields_at, observed, turn_of}
+use Rattle.host.specs.Start.{StartKind, of_kind, may_start, Starting, refuses_start, beginning_of, starts_as, start_if, start_lent, start_of}
+use Rattle.transfers.specs.declared.driver.Run.{Run}
 
 -- ---- the tests
 
-pub and_left : (a b : Bool) → (a && b) ≡ true → a ≡ true
-and_left true b e = refl
-and_left false b e = absurd (true≢false (sym e))
-
-and_right : (a b : Bool) → (a && b) ≡ true → b ≡ true
-and_right true b e = e
-and_right false b e = absurd (true≢false (sym e))
-
 whose_idle : (i : Bool) (t : Dispatcher) → whose i t < 8 → i ≡ true
 whose_idle true t h = refl
-whose_idle false t h = absurd (no h)
-  where
-    no : 8 < 8 → ⊥
-    no q = omega arith
+whose_idle false t h = absurd (omega arith)
 
 -- ---- the driver's begin takes what passed them
 
-is_none_lem : (r : OptionRefusal) → is_none r ≡ true → r ≡ None
-is_none_lem None e = refl
-is_none_lem (Some why) e = absurd (true≢false (sym e))
+is_ok_lem : (r : Result (Unit {0}) Refusal) → is_ok r ≡ true → r ≡ Ok tt
+is_ok_lem (Ok tt) e = refl
+is_ok_lem (Err why) e = cc
 
 pub record Taken (o : Beginning) : Type 0 where
-  pub answer : o.answer ≡ accepted
+  pub answer : o.answer ≡ Ok tt
   pub busy : is_idle o.next ≡ false
 
-or_taken : (fit i : Bool) (r : OptionRefusal) (t : Transfer) (m : List ℕ) (b : Beginning) → fit ≡ true → i ≡ true → r ≡ None → Taken b → Taken (begin_or (begin_refusal fit i r) t m b)
-or_taken fit i r t m b p q e k = subst (λ (f : Bool). Taken (begin_or (begin_refusal f i r) t m b)) (sym p) (subst (λ (v : Bool). Taken (begin_or (begin_refusal true v r) t m b)) (sym q) (subst (λ (z : OptionRefusal). Taken (begin_or z t m b)) (sym e) k))
+or_taken : (fit i : Bool) (r : Result (Unit {0}) Refusal) (t : Option Run) (m : List ℕ) (b : Beginning) → fit ≡ true → i ≡ true → r ≡ Ok tt → Taken b → Taken (begin_or (begin_refusal fit i r) t m b)
+or_taken fit i r t m b p q e k = rw (p, q, e) k
 
-begin_taken : (t : Transfer) (x : Fields) (buf m log : List ℕ) → lent_fits m log ≡ true → is_idle t ≡ true → is_none (fields_refused x) ≡ true → length buf ≡ length_of x → Taken (beginning_of t x buf m log)
+begin_taken : (t : Option Run) (x : Fields) (buf m log : List ℕ) → lent_fits m log ≡ true → is_idle t ≡ true → is_ok (fields_refused x) ≡ true → length buf ≡ length_of x → Taken (beginning_of t x buf m log)
 unfolding begin_control_of begin_bulk_in_of begin_bulk_out_of
 begin_taken t (Control x) buf m log p q e h =
     or_taken (lent_fits m log) (is_idle t) (fields_refusal (address_good x.address) true (size_good x.size) true) t m (begins_control x.address x.extras x.size x.setup x.phase (length buf) m) p q
-    (is_none_lem (fields_refused (Control x)) e) (record { answer = refl; busy = refl })
+    (is_ok_lem (fields_refused (Control x)) e) (record { answer = refl; busy = refl })
 begin_taken t (BulkIn x) buf m log p q e h =
     or_taken (lent_fits m log) (is_idle t) (fields_refusal (address_good x.address) (endpoint_good x.endpoint) (size_good x.size) (leb (length buf) 0xFFFF)) t m
     (begins_bulk_in (bulk_request In x.address x.endpoint x.size x.toggle (length buf)) x.kind m) p q
-    (ap (λ (n : ℕ). fields_refusal (address_good x.address) (endpoint_good x.endpoint) (size_good x.size) (leb n 0xFFFF)) h ∙ is_none_lem (fields_refused (BulkIn x)) e) (record { answer = refl; busy = refl })
+    (ap (λ (n : ℕ). fields_refusal (address_good x.address) (endpoint_good x.endpoint) (size_good x.size) (leb n 0xFFFF)) h ∙ is_ok_lem (fields_refused (BulkIn x)) e) (record { answer = refl; busy = refl })
 begin_taken t (BulkOut x) buf m log p q e h =
     or_taken (lent_fits m log) (is_idle t) (fields_refusal (address_good x.address) (endpoint_good x.endpoint) (size_good x.size) (leb (length buf) 0xFFFF)) t m
     (begins_bulk_out (bulk_request Out x.address x.endpoint x.size x.toggle (length buf)) x.endpoint x.kind buf m) p q
-    (ap (λ (n : ℕ). fields_refusal (address_good x.address) (endpoint_good x.endpoint) (size_good x.size) (leb n 0xFFFF)) h ∙ is_none_lem (fields_refused (BulkOut x)) e) (record { answer = refl; busy = refl })
+    (ap (λ (n : ℕ). fields_refusal (address_good x.address) (endpoint_good x.endpoint) (size_good x.size) (leb n 0xFFFF)) h ∙ is_ok_lem (fields_refused (BulkOut x)) e) (record { answer = refl; busy = refl })
 
 -- ---- every start
 
@@ -118,7 +105,7 @@ start_by_lem d k f buf m log = go (lent_fits m log) (may_start (observed d f) n.
     n : NextStart
     n = next_in d f
 
-    go : (l may : Bool) → start_lent l (cond may (Ready (record { caller = turn_of (observed d f); fields = fields_at d (turn_of (observed d f)) })) Unready) d k f buf m log
+    go : (l may : Bool) → start_lent l (cond may (Some (record { caller = turn_of (observed d f); fields = fields_at d (turn_of (observed d f)) })) None) d k f buf m log
         ≡ start_by l may (of_kind k n.fields) (eqb (length buf) (length_of n.fields)) d f n m (beginning_in d f buf m log)
     go false may = refl
     go true false = refl
@@ -128,20 +115,21 @@ begins : (d : HostController) (k : StartKind) (f : ℕ) (buf m log : List ℕ) �
     → eqb (length buf) (length_of n.fields) ≡ true → start_of d k f buf m log ≡ starts_as (observed d f) n (beginning_in d f buf m log) → Begins d k f buf m log
 begins d k f buf m log l may same e =
     let c = turn_of (observed d f) in
-    let v = is_none (fields_refused (fields_at d c)) in
+    let v = is_ok (fields_refused (fields_at d c)) in
     let r = has_room (observed d f).dispatcher c (requested_of (fields_at d c)) in
-    let w = pending_at d.dispatcher c in
-    let small = below c (and_left (leb c 7) (w && (r && v)) may) in
-    let rest = and_right (leb c 7) (w && (r && v)) may in
-    let last = and_right w (r && v) rest in
+    let w = pending_at (observed d f).dispatcher c in
+    let first = and_parts (leb c 7) (w && (r && v)) may in
+    let rest = and_parts w (r && v) first.1 in
+    let last = and_parts r v rest.1 in
+    let small = below c first.0 in
     let i = whose_idle (idle d) (observed d f).dispatcher small in
     record {
       is = e;
       small = small;
       idles = i;
-      pending = and_left w (r && v) rest;
-      room = and_left r v last;
-      taken = begin_taken d.driver.transfer (fields_at d c) buf m log l i (and_right r v last) (eqb-true (length buf) (length_of (fields_at d c)) same);
+      pending = sym (kept_frame (dispatcher_now d) f c).0 ∙ rest.0;
+      room = last.0;
+      taken = begin_taken d.driver.transfer (fields_at d c) buf m log l i last.1 (eqb-true (length buf) (length_of (fields_at d c)) same);
     }
 
 pub start_is : (d : HostController) (k : StartKind) (f : ℕ) (buf m log : List ℕ) → Start d k f buf m log

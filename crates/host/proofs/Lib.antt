@@ -1,5 +1,3 @@
 pub mod Replies
-pub mod Submitting
-pub mod Next
-pub mod Starting
 pub mod Begins
+pub mod Admitting

@@ -1,12 +1,11 @@
 -- A coming, a look and a start answer as the documents' rows have it. Assumes nothing.
+use Rattle.std.specs.Prelude.{Err, None, Ok, Result, Some, is_ok}
 use mathlib.Core.Path.{◌≡◌, refl, ap, ◌∙◌}
 use mathlib.Core.Bool.{Bool, true, false, cond, not, ◌&&◌}
 use mathlib.Core.List.{List}
 use Prim.Native.Nat.{ℕ}
 use lib.ListN.{length}
 use lib.Dec.{eqb, leb}
-use Rattle.transfers.specs.declared.refusal.OptionRefusal.{OptionRefusal}
-use Rattle.transfers.specs.declared.refusal.OptionRefusal.TheVariants.{Some, None}
 use Rattle.transfers.specs.Refusal.{number_of}
 use Rattle.transfers.specs.Reply.{Reply, result, number}
 use Rattle.transfers.specs.Rows.{unless}
@@ -18,23 +17,22 @@ use Rattle.dispatcher.specs.Dispatcher.{pending_at, quota_at, has_room}
 use Rattle.host.specs.declared.fields.Fields.{Fields}
 use Rattle.host.specs.declared.fields.Fields.TheVariants.{Control, BulkIn, BulkOut}
 use Rattle.host.specs.declared.controller.HostController.{HostController}
-use Rattle.host.specs.declared.answers.TurnAnswer.TheVariants.{Turn, Nobody}
 use Rattle.host.specs.declared.start.NextStart.{NextStart}
-use Rattle.host.specs.declared.start.OptionStart.TheVariants.{Ready, Unready}
 use Rattle.host.specs.Reply.{submit_reply, caller, nobodys, turn_reply, start_reply}
 use Rattle.host.specs.Fields.{length_of, requested_of, fields_refused}
 use Rattle.host.specs.Controller.{idle, fields_at, observed}
 use Rattle.host.specs.Submit.{submit_answer, submit_of}
 use Rattle.host.specs.Turn.{turn_answer, whose_turn_of}
-use Rattle.host.specs.Start.{StartKind, of_kind, is_none, next_at, beginning_of, start_if, start_lent, start_of}
+use Rattle.host.specs.Start.{StartKind, of_kind, next_at, beginning_of, start_if, start_lent, start_of}
 use Rattle.host.specs.Rows.{fields_row, submit_row, turn_row, is_taken, start_row}
+use Rattle.transfers.specs.declared.refusal.Refusal.{Refusal}
 
 -- ---- a coming
 
 -- The fields alone, as a refusal and as a row.
-abbrev row_of : OptionRefusal → Reply (Unit {0})
-row_of (Some why) = number (number_of why)
-row_of None = result tt
+abbrev row_of : Result (Unit {0}) Refusal → Reply (Unit {0})
+row_of (Err why) = number (number_of why)
+row_of (Ok tt) = result tt
 
 refusal_row : (a e p n : Bool) → row_of (fields_refusal a e p n) ≡ unless a 12 (unless e 11 (unless p 13 (unless n 14 (result tt))))
 refusal_row false e p n = refl
@@ -54,12 +52,12 @@ submit_row_lem d c x f =
     go (leb c 7) (pending_at d.dispatcher c) (leb (requested_of x) (quota_at d.dispatcher c)) (fields_refused x)
     ∙ ap (λ (r : Reply (Unit {0})). unless (leb c 7) 32 (unless (not (pending_at d.dispatcher c)) 33 (unless (leb (requested_of x) (quota_at d.dispatcher c)) 34 r))) (fields_row_lem x)
   where
-    go : (a w q : Bool) (r : OptionRefusal) → submit_reply (submit_answer a w q r) ≡ unless a 32 (unless (not w) 33 (unless q 34 (row_of r)))
+    go : (a w q : Bool) (r : Result (Unit {0}) Refusal) → submit_reply (submit_answer a w q r) ≡ unless a 32 (unless (not w) 33 (unless q 34 (row_of r)))
     go false w q r = refl
     go true true q r = refl
     go true false false r = refl
-    go true false true (Some why) = refl
-    go true false true None = refl
+    go true false true (Err why) = refl
+    go true false true (Ok tt) = refl
 
 -- ---- a look
 
@@ -67,7 +65,7 @@ pub turn_row_lem : (d : HostController) (f : ℕ) → turn_reply (whose_turn_of 
 unfolding whose_turn_of
 turn_row_lem d f = go (idle d) (observed d f).dispatcher.turn
   where
-    small : (b : Bool) (c : ℕ) → turn_reply (cond b (Turn c) Nobody) ≡ result (cond b (caller c) nobodys)
+    small : (b : Bool) (c : ℕ) → turn_reply (cond b (Some c) None) ≡ result (cond b (caller c) nobodys)
     small true c = refl
     small false c = refl
 
@@ -77,12 +75,12 @@ turn_row_lem d f = go (idle d) (observed d f).dispatcher.turn
 
 -- ---- a start
 
-none_taken : (x : Fields) → is_none (fields_refused x) ≡ is_taken (fields_row x)
+none_taken : (x : Fields) → is_ok (fields_refused x) ≡ is_taken (fields_row x)
 none_taken x = go (fields_refused x) ∙ ap is_taken (fields_row_lem x)
   where
-    go : (r : OptionRefusal) → is_none r ≡ is_taken (row_of r)
-    go (Some why) = refl
-    go None = refl
+    go : (r : Result (Unit {0}) Refusal) → is_ok r ≡ is_taken (row_of r)
+    go (Err why) = refl
+    go (Ok tt) = refl
 
 -- 16 for another kind, then 15.
 if_row : (k same : Bool) (d : HostController) (f : ℕ) (n : NextStart) (m : List ℕ) (o : Beginning) → start_reply (start_if k same d f n m o).answer ≡ unless k 16 (unless same 15 (result n.caller))
@@ -107,7 +105,7 @@ start_row_lem d k f buf m log = go (lent_fits m log) (idle d) (observed d f).dis
     never true same c = refl
     never false same c = refl
 
-    may : (a w r v : Bool) (c : ℕ) → start_reply (start_lent true (cond (a && (w && (r && v))) (Ready (record { caller = c; fields = fields_at d c })) Unready) d k f buf m log).answer
+    may : (a w r v : Bool) (c : ℕ) → start_reply (start_lent true (cond (a && (w && (r && v))) (Some (record { caller = c; fields = fields_at d c })) None) d k f buf m log).answer
         ≡ unless (a && (w && r)) 16 (rest v c)
     may false w r v c = refl
     may true false r v c = refl
@@ -121,5 +119,5 @@ start_row_lem d k f buf m log = go (lent_fits m log) (idle d) (observed d f).dis
     go false i c = refl
     go true false c = refl
     go true true c =
-        may (leb c 7) (pending_at t c) (room c) (is_none (fields_refused (fields_at d c))) c
+        may (leb c 7) (pending_at t c) (room c) (is_ok (fields_refused (fields_at d c))) c
         ∙ ap (λ (v : Bool). unless (leb c 7 && (pending_at t c && room c)) 16 (rest v c)) (none_taken (fields_at d c))

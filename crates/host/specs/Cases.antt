@@ -1,5 +1,5 @@
 -- The smallest cases of comings, looks and starts, from a fresh host on, as one theorem.
-use Rattle.std.specs.Prelude.{◌≡◌, refl, false, ℕ, replicate}
+use Rattle.std.specs.Prelude.{◌≡◌, refl, false, ℕ, replicate, map}
 use Rattle.cutting.specs.declared.transfer_type.TransferType.TheVariants.{FixedSize}
 use Rattle.transfers.specs.declared.host_controller.DataPhase.TheVariants.{None}
 use Rattle.transfers.specs.declared.host_controller.TransferExtras.TheVariants.{Normal}
@@ -9,6 +9,7 @@ use Rattle.transfers.specs.Reply.{Reply, result, number}
 use Rattle.transfers.specs.State.{served, sound}
 use Rattle.transfers.specs.Calls.{cancel_of, begin_control_of}
 use Rattle.transfers.specs.Driver.{begun, dropped}
+use Rattle.dispatcher.specs.declared.Caller.{Caller}
 use Rattle.dispatcher.specs.declared.Dispatcher.{Dispatcher}
 use Rattle.dispatcher.specs.Dispatcher.{first_from}
 use Rattle.host.specs.declared.fields.Fields.{Fields}
@@ -80,7 +81,8 @@ asking w = control_fields 5 Normal 64 (record { bmRequestType = 0; bRequest = 9;
 
 -- Every spent count above its share.
 abbrev forged_used : Dispatcher → Dispatcher
-forged_used t = record { pending = t.pending; requested = t.requested; quota = replicate 8 3; used = replicate 8 4; turn = t.turn; last = t.last; frame = t.frame }
+forged_used t =
+    record { callers = map (λ (x : Caller). record { pending = x.pending; requested = x.requested; quota = 3; used = 4 }) t.callers; turn = t.turn; last = t.last; frame = t.frame }
 
 -- ---- what they answer
 

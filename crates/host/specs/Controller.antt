@@ -13,7 +13,7 @@ use Rattle.host.specs.Fields.{no_fields}
 
 -- A fresh driver, "for each caller a 32-bit share, given when it is made", and nobody came.
 abbrev pub fresh_host : DeskRule → List ℕ → HostController
-fresh_host rule quota = record { driver = D.fresh rule; dispatcher = T.fresh quota; submissions = replicate 8 (record { fields = no_fields }) }
+fresh_host rule quota = record { driver = D.fresh rule; dispatcher = T.fresh quota; submissions = replicate 8 no_fields }
 
 -- No transfer is under way.
 abbrev pub idle : HostController → Bool
@@ -25,11 +25,11 @@ dispatcher_now d = current (idle d) d.dispatcher
 
 -- What caller c came with last.
 abbrev pub fields_at : HostController → ℕ → Fields
-fields_at d c = (get_or d.submissions c (record { fields = no_fields })).fields
+fields_at d c = get_or d.submissions c no_fields
 
 -- Caller c comes with these.
 abbrev pub with_fields : HostController → ℕ → Fields → HostController
-with_fields d c x = record { driver = d.driver; dispatcher = d.dispatcher; submissions = set d.submissions c (record { fields = x }) }
+with_fields d c x = record { driver = d.driver; dispatcher = d.dispatcher; submissions = set d.submissions c x }
 
 -- Other turns.
 abbrev pub with_dispatcher : HostController → Dispatcher → HostController

@@ -1,17 +1,17 @@
 -- "one transfer waiting, which comes with begin's fields and its buffer's length alone": the fields of a coming, and which of them it refuses.
-use Rattle.std.specs.Prelude.{Bool, true, ℕ, leb}
+use Rattle.std.specs.Prelude.{Bool, true, ℕ, leb, Result}
 use Rattle.cutting.specs.declared.transfer_type.TransferType.{TransferType}
 use Rattle.transfers.specs.declared.host_controller.DataPhase.{DataPhase}
 use Rattle.transfers.specs.declared.host_controller.DataPhase.TheVariants.{In}
 use Rattle.transfers.specs.declared.host_controller.TransferExtras.{TransferExtras}
 use Rattle.transfers.specs.declared.host_controller.TransferExtras.TheVariants.{Normal}
 use Rattle.transfers.specs.declared.wire.SetupPacket.{SetupPacket}
-use Rattle.transfers.specs.declared.refusal.OptionRefusal.{OptionRefusal}
 use Rattle.transfers.specs.State.{address_good, endpoint_good, size_good}
 use Rattle.transfers.specs.Calls.{fields_refusal}
 use Rattle.host.specs.declared.fields.BulkFields.{BulkFields}
 use Rattle.host.specs.declared.fields.Fields.{Fields}
 use Rattle.host.specs.declared.fields.Fields.TheVariants.{Control, BulkIn, BulkOut}
+use Rattle.transfers.specs.declared.refusal.Refusal.{Refusal}
 
 -- What `submit_control` is given.
 abbrev pub control_fields : ℕ → TransferExtras → ℕ → SetupPacket → DataPhase → ℕ → Fields
@@ -42,11 +42,11 @@ requested_of (BulkIn x) = x.length
 requested_of (BulkOut x) = x.length
 
 -- A bulk coming's 12, 11, 13, 14.
-abbrev pub bulk_refused : BulkFields → OptionRefusal
+abbrev pub bulk_refused : BulkFields → Result (Unit {0}) Refusal
 bulk_refused x = fields_refusal (address_good x.address) (endpoint_good x.endpoint) (size_good x.size) (leb x.length 0xFFFF)
 
 -- "then as begin does, save that 8 no longer occurs": 12, 11, 13, 14; nothing is lent, so there is no 15. As at begin a control has no endpoint and no limit of its buffer.
-abbrev pub fields_refused : Fields → OptionRefusal
+abbrev pub fields_refused : Fields → Result (Unit {0}) Refusal
 fields_refused (Control x) = fields_refusal (address_good x.address) true (size_good x.size) true
 fields_refused (BulkIn x) = bulk_refused x
 fields_refused (BulkOut x) = bulk_refused x

@@ -1,5 +1,6 @@
 // What a coming, a look and a start answer, and the documents' number for each refusal.
 ghost use Rattle.std.specs.Prelude.{◌≡◌};
+ghost use Rattle.host.specs.declared.answers.SubmitRefusal.TheVariants.{Begin};
 ghost use Rattle.host.specs.Refusal.{number_of};
 
 use transfers::refusal::Refusal;
@@ -13,32 +14,23 @@ pub enum SubmitRefusal {
     Begin(Refusal),
 }
 
-#[derive(Clone, Copy)]
-pub enum SubmitAnswer {
-    Accepted,
-    Refused(SubmitRefusal),
+impl From<Refusal> for SubmitRefusal {
+    ghost from_gives = { λ why e. e ≡ Begin why };
+
+    fn from(why: Refusal) -> SubmitRefusal {
+        SubmitRefusal::Begin(why)
+    }
 }
 
-#[derive(Clone, Copy)]
-pub enum TurnAnswer {
-    Turn(u8),
-    Nobody,
-}
+impl From<SubmitRefusal> for u8 {
+    ghost from_gives = { λ why n. n ≡ number_of why };
 
-// The caller whose transfer started.
-#[derive(Clone, Copy)]
-pub enum StartAnswer {
-    Started(u8),
-    Refused(Refusal),
-}
-
-pub fn number(refusal: SubmitRefusal) -> u8
-    ensures { result ≡ number_of refusal }
-{
-    match refusal {
-        SubmitRefusal::Caller => 32,
-        SubmitRefusal::Pending => 33,
-        SubmitRefusal::Quota => 34,
-        SubmitRefusal::Begin(e) => transfers::refusal::number(e),
+    fn from(why: SubmitRefusal) -> u8 {
+        match why {
+            SubmitRefusal::Caller => 32,
+            SubmitRefusal::Pending => 33,
+            SubmitRefusal::Quota => 34,
+            SubmitRefusal::Begin(e) => u8::from(e),
+        }
     }
 }

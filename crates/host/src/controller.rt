@@ -7,45 +7,39 @@ ghost use Rattle.host.specs.Turn.{turn_answer, whose_turn_of};
 ghost use Rattle.host.specs.Reply.{submit_reply, turn_reply};
 ghost use Rattle.host.specs.Rows.{submit_row, turn_row};
 
-use crate::answers::{SubmitAnswer, SubmitRefusal, TurnAnswer};
-use crate::fields::{
-    BulkFields, ControlFields, Fields, Submission, fields_refused, no_fields, requested,
-};
+use crate::answers::SubmitRefusal;
+use crate::fields::{BulkFields, ControlFields, Fields, no_fields};
 use cutting::transfer_type::TransferType;
 use dispatcher::Dispatcher;
 use transfers::driver::{DeskRule, Driver};
 use transfers::host_controller::{DataPhase, TransferExtras};
-use transfers::refusal::OptionRefusal;
 use transfers::wire::SetupPacket;
 
-// The driver's own calls go on the field: `let r = host.driver.step_in(..); let n = r.next; host.driver = n;`.
+// `submissions` is what each caller came with last. The driver's own calls go on the field: `let r = host.driver.step_in(..); host.driver = r.next;`.
 #[derive(Clone, Copy)]
 pub struct HostController {
     pub driver: Driver,
     pub dispatcher: Dispatcher,
-    pub submissions: [Submission; 8],
+    pub submissions: [Fields; 8],
 }
 
 #[derive(Clone, Copy)]
 pub struct SubmitResult {
     pub next: HostController,
-    pub answer: SubmitAnswer,
+    pub answer: Result<(), SubmitRefusal>,
 }
 
 #[derive(Clone, Copy)]
 pub struct TurnResult {
     pub next: HostController,
-    pub answer: TurnAnswer,
+    pub answer: Option<u8>,
 }
 
 // A turn above 7 is nobody's.
-fn turn_answer(c: u8) -> TurnAnswer
+pub(crate) fn turn_answer(c: u8) -> Option<u8>
     ensures { result ≡ turn_answer c }
 {
-    if c > 7 {
-        return TurnAnswer::Nobody;
-    }
-    TurnAnswer::Turn(c)
+    (c < 8).then_some(c)
 }
 
 impl HostController {
@@ -56,9 +50,7 @@ impl HostController {
         HostController {
             driver: Driver::new(rule),
             dispatcher: Dispatcher::new(quota),
-            submissions: [Submission {
-                fields: no_fields(),
-            }; 8],
+            submissions: [no_fields(); 8],
         }
     }
 
@@ -66,9 +58,7 @@ impl HostController {
     pub(crate) fn is_idle(self) -> bool
         ensures { result ≡ idle self }
     {
-        let d = self.driver;
-        let t = d.transfer;
-        transfers::begin::is_idle(t)
+        transfers::begin::is_idle(self.driver.transfer)
     }
 
     // What caller c came with last.
@@ -76,74 +66,71 @@ impl HostController {
         requires { c < 8 }
         ensures { result ≡ fields_at self c }
     {
-        let i = c as usize;
-        let s = self.submissions[i];
-        s.fields
+        self.submissions[c as usize]
     }
 
     fn with_fields(mut self, c: u8, fields: Fields) -> HostController
         requires { c < 8 }
         ensures { result ≡ with_fields self c fields }
     {
-        let i = c as usize;
-        self.submissions[i] = Submission { fields: fields };
+        self.submissions[c as usize] = fields;
         self
     }
 
     // As a look in this frame leaves it.
-    pub(crate) fn observed(mut self, frame: u32) -> HostController
+    pub(crate) fn observed(self, frame: u32) -> HostController
         ensures { result ≡ observed self frame }
     {
-        let t = self.dispatcher;
-        let dispatcher = t.observes(self.is_idle(), frame);
-        self.dispatcher = dispatcher;
-        self
+        HostController {
+            dispatcher: self.dispatcher.observes(self.is_idle(), frame),
+            ..self
+        }
     }
 
     // 32, 33, 34, then as begin.
-    fn submit_checks(self, caller: u8, fields: Fields) -> SubmitAnswer
+    fn submit_checks(self, caller: u8, fields: Fields) -> Result<(), SubmitRefusal>
         ensures { result ≡ submit_checks self caller fields }
     {
         if caller > 7 {
-            return SubmitAnswer::Refused(SubmitRefusal::Caller);
+            return Err(SubmitRefusal::Caller);
         }
-        let t = self.dispatcher;
-        if t.pending_at(caller) {
-            return SubmitAnswer::Refused(SubmitRefusal::Pending);
+        if self.dispatcher.pending_at(caller) {
+            return Err(SubmitRefusal::Pending);
         }
-        let quota = t.quota_at(caller);
-        if requested(fields) > quota as usize {
-            return SubmitAnswer::Refused(SubmitRefusal::Quota);
+        if fields.requested() > self.dispatcher.quota_at(caller) as usize {
+            return Err(SubmitRefusal::Quota);
         }
-        let r = fields_refused(fields);
-        match r {
-            OptionRefusal::None => SubmitAnswer::Accepted,
-            OptionRefusal::Some(e) => SubmitAnswer::Refused(SubmitRefusal::Begin(e)),
-        }
+        fields.refused()?;
+        Ok(())
     }
 
     // A coming. A refused one changes nothing.
-    fn submit(mut self, caller: u8, fields: Fields, frame: u32) -> SubmitResult
+    #[tactic(auto, using(crate::proofs::Replies::submit_row_lem), unfolding(crate::specs::Submit::submit_of))]
+    fn submit(self, caller: u8, fields: Fields, frame: u32) -> SubmitResult
         ensures { (result ≡ submit_of self caller fields frame) × (submit_reply result.answer ≡ submit_row self caller fields) }
     {
-        let answer = self.submit_checks(caller, fields);
-        let SubmitAnswer::Accepted = answer else {
-            return SubmitResult {
+        match self.submit_checks(caller, fields) {
+            Err(why) => SubmitResult {
                 next: self,
-                answer: answer,
-            };
-        };
-        let t = self.dispatcher;
-        let dispatcher = t.submits(self.is_idle(), caller, requested(fields), frame);
-        self = self.with_fields(caller, fields);
-        self.dispatcher = dispatcher;
-        SubmitResult {
-            next: self,
-            answer: answer,
+                answer: Err(why),
+            },
+            Ok(()) => {
+                let bytes = fields.requested();
+                let next = HostController {
+                    dispatcher: self
+                        .dispatcher
+                        .submits(self.is_idle(), caller, bytes, frame),
+                    ..self.with_fields(caller, fields)
+                };
+                SubmitResult {
+                    next,
+                    answer: Ok(()),
+                }
+            }
         }
     }
 
-    // A control transfer comes; its buffer is `length` bytes long, and lent with its start.
+    // A control transfer comes, by begin's own fields, as its start and `control_fields` have them; its buffer is `length` bytes long, and lent with its start.
     pub fn submit_control(
         self,
         caller: u8,
@@ -161,18 +148,18 @@ impl HostController {
         self.submit(
             caller,
             Fields::Control(ControlFields {
-                address: address,
-                extras: extras,
-                size: size,
-                setup: setup,
-                phase: phase,
-                length: length,
+                address,
+                extras,
+                size,
+                setup,
+                phase,
+                length,
             }),
             frame,
         )
     }
 
-    // A bulk IN transfer comes.
+    // A bulk IN transfer comes. The three comings stay, as `term3` and docs/GLUE.md name them: one call each of `submit`.
     pub fn submit_bulk_in(
         self,
         caller: u8,
@@ -190,12 +177,12 @@ impl HostController {
         self.submit(
             caller,
             Fields::BulkIn(BulkFields {
-                address: address,
-                endpoint: endpoint,
-                size: size,
-                kind: kind,
-                toggle: toggle,
-                length: length,
+                address,
+                endpoint,
+                size,
+                kind,
+                toggle,
+                length,
             }),
             frame,
         )
@@ -219,26 +206,26 @@ impl HostController {
         self.submit(
             caller,
             Fields::BulkOut(BulkFields {
-                address: address,
-                endpoint: endpoint,
-                size: size,
-                kind: kind,
-                toggle: toggle,
-                length: length,
+                address,
+                endpoint,
+                size,
+                kind,
+                toggle,
+                length,
             }),
             frame,
         )
     }
 
     // A look, never refused.
+    #[tactic(auto, using(crate::proofs::Replies::turn_row_lem), unfolding(crate::specs::Turn::whose_turn_of))]
     pub fn whose_turn(self, frame: u32) -> TurnResult
         ensures { (result ≡ whose_turn_of self frame) × (turn_reply result.answer ≡ turn_row self frame) }
     {
-        let now = self.observed(frame);
-        let t = now.dispatcher;
+        let next = self.observed(frame);
         TurnResult {
-            next: now,
-            answer: turn_answer(t.whose(now.is_idle())),
+            next,
+            answer: turn_answer(next.dispatcher.whose(next.is_idle())),
         }
     }
 }

@@ -1,11 +1,11 @@
 // What a transfer comes with: begin's fields, in begin's order, and its buffer's length alone.
 ghost use Rattle.std.specs.Prelude.{◌≡◌};
-ghost use Rattle.host.specs.Fields.{no_fields, requested_of, bulk_refused, fields_refused};
+ghost use Rattle.host.specs.Fields.{no_fields, length_of, requested_of, bulk_refused, fields_refused};
 
 use cutting::transfer_type::TransferType;
 use transfers::begin::fields_refusal;
 use transfers::host_controller::{DataPhase, TransferExtras};
-use transfers::refusal::OptionRefusal;
+use transfers::refusal::Refusal;
 use transfers::state::endpoint_good;
 use transfers::wire::SetupPacket;
 
@@ -37,12 +37,6 @@ pub enum Fields {
     BulkOut(BulkFields),
 }
 
-// What a caller came with last.
-#[derive(Clone, Copy)]
-pub struct Submission {
-    pub fields: Fields,
-}
-
 // A caller that never came: an address, a size and a length of 0.
 pub(crate) fn no_fields() -> Fields
     ensures { result ≡ no_fields }
@@ -63,35 +57,47 @@ pub(crate) fn no_fields() -> Fields
     })
 }
 
-// What the transfer is charged: wLength, or the bulk buffer's length.
-pub(crate) fn requested(x: Fields) -> usize
-    ensures { result ≡ requested_of x }
-{
-    match x {
-        Fields::Control(y) => y.setup.wLength as usize,
-        Fields::BulkIn(y) => y.length,
-        Fields::BulkOut(y) => y.length,
+impl BulkFields {
+    fn refused(self) -> Result<(), Refusal>
+        ensures { result ≡ bulk_refused self }
+    {
+        fields_refusal(
+            self.address,
+            endpoint_good(self.endpoint),
+            self.size,
+            self.length <= 0xFFFF,
+        )
     }
 }
 
-fn bulk_refused(x: BulkFields) -> OptionRefusal
-    ensures { result ≡ bulk_refused x }
-{
-    fields_refusal(
-        x.address,
-        endpoint_good(x.endpoint),
-        x.size,
-        x.length <= 0xFFFF,
-    )
-}
+impl Fields {
+    // Its buffer's length.
+    pub(crate) fn length(self) -> usize
+        ensures { result ≡ length_of self }
+    {
+        match self {
+            Fields::Control(x) => x.length,
+            Fields::BulkIn(x) | Fields::BulkOut(x) => x.length,
+        }
+    }
 
-// Whether a coming refuses these fields, as begin does: 12, 11, 13, 14. A control has no 11 and 14.
-pub(crate) fn fields_refused(x: Fields) -> OptionRefusal
-    ensures { result ≡ fields_refused x }
-{
-    match x {
-        Fields::Control(y) => fields_refusal(y.address, true, y.size as u16, true),
-        Fields::BulkIn(y) => bulk_refused(y),
-        Fields::BulkOut(y) => bulk_refused(y),
+    // What the transfer is charged: wLength, or the bulk buffer's length.
+    pub(crate) fn requested(self) -> usize
+        ensures { result ≡ requested_of self }
+    {
+        match self {
+            Fields::Control(x) => x.setup.wLength as usize,
+            Fields::BulkIn(x) | Fields::BulkOut(x) => x.length,
+        }
+    }
+
+    // Whether a coming refuses these fields, as begin does: 12, 11, 13, 14. A control has no 11 and 14.
+    pub(crate) fn refused(self) -> Result<(), Refusal>
+        ensures { result ≡ fields_refused self }
+    {
+        match self {
+            Fields::Control(x) => fields_refusal(x.address, true, x.size as u16, true),
+            Fields::BulkIn(x) | Fields::BulkOut(x) => x.refused(),
+        }
     }
 }

@@ -1,22 +1,22 @@
 // Starts: what begin did, with the fields that the caller whose turn it is came with. A start begins with a look; a refused one changes nothing.
-ghost use Rattle.std.specs.Prelude.{◌≡◌};
-ghost use Rattle.host.specs.Start.{StartKind, next_start, refusing, started_by, start_of, DidStart};
+ghost use Rattle.std.specs.Prelude.{◌≡◌, true, false, refl, MatchOption, MatchResult};
+ghost use Rattle.host.specs.declared.fields.Fields.{Fields};
+ghost use Rattle.host.specs.declared.fields.Fields.TheVariants.{Control, BulkIn, BulkOut};
+ghost use Rattle.host.specs.Start.{StartKind, control, bulk_in, bulk_out, of_kind, next_start, refusing, started_by, start_of, DidStart, Admitted, Refused};
 ghost use Rattle.host.specs.Reply.{start_reply};
 ghost use Rattle.host.specs.Rows.{start_row};
 
-use crate::answers::StartAnswer;
-use crate::controller::HostController;
-use crate::fields::{Fields, fields_refused, requested};
-use transfers::answers::{Armed, OptionOut, OptionSetup};
+use crate::controller::{HostController, turn_answer};
+use crate::fields::{BulkFields, ControlFields, Fields};
+use transfers::answers::Armed;
 use transfers::control::Begun;
 use transfers::memory::lent_fits;
-use transfers::refusal::{OptionRefusal, Refusal};
+use transfers::refusal::Refusal;
 
-// `armed` and `writes` are begin's.
 #[derive(Clone, Copy)]
 pub struct StartResult {
     pub next: HostController,
-    pub answer: StartAnswer,
+    pub answer: Result<u8, Refusal>,
     pub armed: Armed,
     pub writes: usize,
 }
@@ -28,22 +28,91 @@ pub(crate) struct NextStart {
     pub fields: Fields,
 }
 
-#[derive(Clone, Copy)]
-pub(crate) enum OptionStart {
-    Ready(NextStart),
-    Unready,
+// What one of the three starts begins with.
+pub(crate) trait StartFields: Copy {
+    ghost kind: { StartKind };
+
+    ghost came: { Self → Fields };
+
+    // Those that came, if they are of this kind.
+    fn of(fields: Fields) -> Option<Self>
+        ensures { MatchOption result (of_kind kind fields ≡ false) (λ y. fields ≡ came y) };
+
+    ghost is_kind: { (y : Self) → of_kind kind (came y) ≡ true };
 }
 
-fn refuse_start(d: HostController, e: Refusal) -> StartResult
-    ensures { result ≡ refusing d e }
+impl StartFields for ControlFields {
+    ghost kind = { control };
+
+    ghost came = { Control };
+
+    ghost is_kind = { λ y. refl };
+
+    fn of(fields: Fields) -> Option<ControlFields> {
+        match fields {
+            Fields::Control(y) => Some(y),
+            _ => None,
+        }
+    }
+}
+
+// What came as a bulk IN.
+#[derive(Clone, Copy)]
+pub(crate) struct BulkIn(BulkFields);
+
+impl StartFields for BulkIn {
+    ghost kind = { bulk_in };
+
+    ghost came = { λ y. BulkIn y.0 };
+
+    ghost is_kind = { λ y. refl };
+
+    fn of(fields: Fields) -> Option<BulkIn> {
+        match fields {
+            Fields::BulkIn(y) => Some(BulkIn(y)),
+            _ => None,
+        }
+    }
+}
+
+// What came as a bulk OUT.
+#[derive(Clone, Copy)]
+pub(crate) struct BulkOut(BulkFields);
+
+impl StartFields for BulkOut {
+    ghost kind = { bulk_out };
+
+    ghost came = { λ y. BulkOut y.0 };
+
+    ghost is_kind = { λ y. refl };
+
+    fn of(fields: Fields) -> Option<BulkOut> {
+        match fields {
+            Fields::BulkOut(y) => Some(BulkOut(y)),
+            _ => None,
+        }
+    }
+}
+
+// What the checks of a start leave: the state as the look leaves it, who starts, and what this call begins with.
+#[derive(Clone, Copy)]
+pub(crate) struct Admission<T> {
+    pub now: HostController,
+    pub next: NextStart,
+    pub fields: T,
+}
+
+// Nothing is armed: `transfers`' own `nothing_armed` is of its crate alone.
+fn refuse_start(next: HostController, why: Refusal) -> StartResult
+    ensures { result ≡ refusing next why }
 {
     StartResult {
-        next: d,
-        answer: StartAnswer::Refused(e),
+        next,
+        answer: Err(why),
         armed: Armed {
-            setup: OptionSetup::None,
-            first: OptionOut::None,
-            second: OptionOut::None,
+            setup: None,
+            first: None,
+            second: None,
         },
         writes: 0,
     }
@@ -51,105 +120,97 @@ fn refuse_start(d: HostController, e: Refusal) -> StartResult
 
 impl HostController {
     // Who starts after a look: all of 16 but the call's kind.
-    fn next_start(self) -> OptionStart
+    fn next_start(self) -> Option<NextStart>
         ensures { result ≡ next_start self }
     {
-        let t = self.dispatcher;
-        let c = t.whose(self.is_idle());
-        if c > 7 {
-            return OptionStart::Unready;
+        let caller = turn_answer(self.dispatcher.whose(self.is_idle()))?;
+        let fields = self.fields_at(caller);
+        if !self.dispatcher.pending_at(caller)
+            || !self.dispatcher.has_room(caller, fields.requested())
+        {
+            return None;
         }
-        if !t.pending_at(c) {
-            return OptionStart::Unready;
+        fields.refused().ok()?;
+        Some(NextStart { caller, fields })
+    }
+
+    // The checks of a start, in their order; `n` is the length of the buffer lent.
+    #[tactic(auto, unfolding(crate::specs::Start::start_of))]
+    fn admit<T: StartFields>(
+        self,
+        frame: u32,
+        n: usize,
+        pm: &[u8],
+        log: &[u32],
+    ) -> Result<Admission<T>, Refusal>
+        ensures { MatchResult result (Admitted T.kind T.came self frame n pm.now log.now) (Refused T.kind self frame n pm.now log.now) }
+    {
+        if !lent_fits(pm, log) {
+            return Err(Refusal::LentMemory);
         }
-        let x = self.fields_at(c);
-        if !t.has_room(c, requested(x)) {
-            return OptionStart::Unready;
+        let now = self.observed(frame);
+        let next = now.next_start().ok_or(Refusal::State)?;
+        let fields = T::of(next.fields).ok_or(Refusal::State)?;
+        if n != next.fields.length() {
+            return Err(Refusal::LentMemory);
         }
-        let r = fields_refused(x);
-        match r {
-            OptionRefusal::Some(_) => OptionStart::Unready,
-            OptionRefusal::None => OptionStart::Ready(NextStart {
-                caller: c,
-                fields: x,
-            }),
-        }
+        Ok(Admission { now, next, fields })
     }
 
     // The transfer of n has begun, and its bytes are charged.
-    fn started(mut self, n: NextStart, b: Begun) -> StartResult
+    fn started(self, n: NextStart, b: Begun) -> StartResult
         ensures { result ≡ started_by self n b }
     {
-        let t = self.dispatcher;
-        let x = n.fields;
-        let dispatcher = t.starts(n.caller, requested(x));
-        let driver = b.next;
-        let armed = b.armed;
-        self.driver = driver;
-        self.dispatcher = dispatcher;
         StartResult {
-            next: self,
-            answer: StartAnswer::Started(n.caller),
-            armed: armed,
+            next: HostController {
+                driver: b.next,
+                dispatcher: self.dispatcher.starts(n.caller, n.fields.requested()),
+                ..self
+            },
+            answer: Ok(n.caller),
+            armed: b.armed,
             writes: b.writes,
         }
     }
 
-    // A control transfer starts.
+    // A control transfer starts. The three starts stay: `StartKind` and `term3` name them, and a bulk OUT alone writes packet memory.
+    #[tactic(auto, using(crate::proofs::Replies::start_row_lem))]
     pub fn start_control(self, frame: u32, buf: &[u8], pm: &[u8], log: &mut [u32]) -> StartResult
         ensures { DidStart (start_of self StartKind.control frame buf.now pm.now log.old) log.old result pm.now log.new
             × (start_reply result.answer ≡ start_row self StartKind.control frame buf.now pm.now log.old) }
     {
-        if !lent_fits(pm, log) {
-            return refuse_start(self, Refusal::LentMemory);
+        match self.admit::<ControlFields>(frame, buf.len(), pm, log) {
+            Err(why) => refuse_start(self, why),
+            Ok(a) => {
+                let x = a.fields;
+                let b = a.now.driver.begin_control(
+                    x.address, x.extras, x.size, x.setup, x.phase, buf, pm, log,
+                );
+                a.now.started(a.next, b)
+            }
         }
-        let now = self.observed(frame);
-        let next = now.next_start();
-        let OptionStart::Ready(n) = next else {
-            return refuse_start(self, Refusal::State);
-        };
-        let x = n.fields;
-        let Fields::Control(y) = x else {
-            return refuse_start(self, Refusal::State);
-        };
-        if buf.len() != y.length {
-            return refuse_start(self, Refusal::LentMemory);
-        }
-        let d = now.driver;
-        let extras = y.extras;
-        let setup = y.setup;
-        let phase = y.phase;
-        let b = d.begin_control(y.address, extras, y.size, setup, phase, buf, pm, log);
-        now.started(n, b)
     }
 
     // A bulk IN transfer starts.
+    #[tactic(auto, using(crate::proofs::Replies::start_row_lem))]
     pub fn start_bulk_in(self, frame: u32, buf: &[u8], pm: &[u8], log: &mut [u32]) -> StartResult
         ensures { DidStart (start_of self StartKind.bulk_in frame buf.now pm.now log.old) log.old result pm.now log.new
             × (start_reply result.answer ≡ start_row self StartKind.bulk_in frame buf.now pm.now log.old) }
     {
-        if !lent_fits(pm, log) {
-            return refuse_start(self, Refusal::LentMemory);
+        match self.admit::<BulkIn>(frame, buf.len(), pm, log) {
+            Err(why) => refuse_start(self, why),
+            Ok(a) => {
+                let BulkIn(x) = a.fields;
+                let b = a.now.driver.begin_bulk_in(
+                    x.address, x.endpoint, x.size, x.kind, x.toggle, buf, pm, log,
+                );
+                a.now.started(a.next, b)
+            }
         }
-        let now = self.observed(frame);
-        let next = now.next_start();
-        let OptionStart::Ready(n) = next else {
-            return refuse_start(self, Refusal::State);
-        };
-        let x = n.fields;
-        let Fields::BulkIn(y) = x else {
-            return refuse_start(self, Refusal::State);
-        };
-        if buf.len() != y.length {
-            return refuse_start(self, Refusal::LentMemory);
-        }
-        let d = now.driver;
-        let kind = y.kind;
-        let b = d.begin_bulk_in(y.address, y.endpoint, y.size, kind, y.toggle, buf, pm, log);
-        now.started(n, b)
     }
 
     // A bulk OUT transfer starts: its first packets are stored in packet memory.
+    #[tactic(auto, using(crate::proofs::Replies::start_row_lem))]
     pub fn start_bulk_out(
         self,
         frame: u32,
@@ -160,24 +221,15 @@ impl HostController {
         ensures { DidStart (start_of self StartKind.bulk_out frame buf.now pm.old log.old) log.old result pm.new log.new
             × (start_reply result.answer ≡ start_row self StartKind.bulk_out frame buf.now pm.old log.old) }
     {
-        if !lent_fits(pm, log) {
-            return refuse_start(self, Refusal::LentMemory);
+        match self.admit::<BulkOut>(frame, buf.len(), pm, log) {
+            Err(why) => refuse_start(self, why),
+            Ok(a) => {
+                let BulkOut(x) = a.fields;
+                let b = a.now.driver.begin_bulk_out(
+                    x.address, x.endpoint, x.size, x.kind, x.toggle, buf, pm, log,
+                );
+                a.now.started(a.next, b)
+            }
         }
-        let now = self.observed(frame);
-        let next = now.next_start();
-        let OptionStart::Ready(n) = next else {
-            return refuse_start(self, Refusal::State);
-        };
-        let x = n.fields;
-        let Fields::BulkOut(y) = x else {
-            return refuse_start(self, Refusal::State);
-        };
-        if buf.len() != y.length {
-            return refuse_start(self, Refusal::LentMemory);
-        }
-        let d = now.driver;
-        let kind = y.kind;
-        let b = d.begin_bulk_out(y.address, y.endpoint, y.size, kind, y.toggle, buf, pm, log);
-        now.started(n, b)
     }
 }

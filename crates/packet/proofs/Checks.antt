@@ -9,17 +9,18 @@ use lib.Dec.{eqb, leb}
 use lib.ListN.{length, take, drop, get_or}
 use lib.Seq.{take-append_seam}
 use borrow.Author.Tests.{eqb-true, eqb-false, eq-eqb, ne_eqb, le-leb, lt-leb}
+use Rattle.std.specs.Prelude.{Option, None}
 use Rattle.packet.specs.Crc.{crc5_of, crc16_of, Residual5, Residual16}
 use Rattle.packet.specs.Packet.{Packet, token, sof, payload, handshake, low, checked, encode, Bytes, in_range, kind_of}
 use Rattle.packet.specs.Reply.{result, number}
-use Rattle.packet.specs.Reading.{word_at, eleven_of, read_rest, read_of}
+use Rattle.packet.specs.Reading.{word_at, eleven_of, read_rest, read_kind, read_of}
 use Rattle.packet.specs.Writing.{write_row}
 use Rattle.packet.specs.Checks.{room_for, begins3, begins3to67, begins1, PacketOr27, Writes, Reads}
 use Rattle.packet.specs.declared.packet.Token.{Token}
 use Rattle.packet.specs.declared.packet.Handshake.{Handshake}
 use Rattle.packet.specs.declared.packet.Handshake.TheVariants.{Ack, Nak, Stall}
 use Rattle.packet.specs.declared.packet.Kind.{Kind}
-use Rattle.packet.specs.declared.packet.Kind.TheVariants.{Data as data_kind, Handshake as handshake_kind, Unknown as unknown}
+use Rattle.packet.specs.declared.packet.Kind.TheVariants.{Data as data_kind, Handshake as handshake_kind}
 use Rattle.packet.proofs.Written.{size_of, length_encode}
 use Rattle.packet.proofs.Answered.{eleven_length, data_short, data_long}
 use Rattle.packet.proofs.RoundTrip.{low_part, address_part, endpoint_part, word_lt, data_back}
@@ -116,7 +117,7 @@ data_pids P x a b = found P x 0xC3 (eqb x 0x4B) a (last P x 0x4B b)
 one : (P : ℕ → Type 0) (x : ℕ) → P 0xD2 → P 0x5A → P 0x1E → begins1 x ≡ true → P x
 one P x a b c = found P x 0xD2 (eqb x 0x5A || eqb x 0x1E) a (found P x 0x5A (eqb x 0x1E) b (last P x 0x1E c))
 
-unknown_kind : (x : ℕ) → begins3 x ≡ false → begins3to67 x ≡ false → begins1 x ≡ false → kind_of x ≡ unknown
+unknown_kind : (x : ℕ) → begins3 x ≡ false → begins3to67 x ≡ false → begins1 x ≡ false → kind_of x ≡ None
 unfolding kind_of
 unknown_kind x f g h =
     let f1 = none (eqb x 0xE1) (eqb x 0x69 || (eqb x 0x2D || eqb x 0xA5)) f in
@@ -129,7 +130,7 @@ unknown_kind x f g h =
 
 unknown_read : (x : ℕ) (l : List ℕ) → begins3 x ≡ false → begins3to67 x ≡ false → begins1 x ≡ false → read_of (x ∷ l) ≡ number 25
 unfolding read_of
-unknown_read x l f g h = ap (λ (k : Kind). read_rest k l) (unknown_kind x f g h)
+unknown_read x l f g h = ap (λ (k : Option Kind). read_kind k l) (unknown_kind x f g h)
 
 -- A test that passes exactly where a condition holds.
 judged : (C : Type 0) (a b : ℕ) (p : Packet) → (a ≡ b → C) → (C → a ≡ b) → PacketOr27 C (cond (eqb a b) (result p) (number 27))

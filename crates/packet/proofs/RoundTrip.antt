@@ -9,16 +9,17 @@ use lib.Dec.{eqb, leb}
 use lib.ListN.{length, take, get_or, length-append}
 use lib.Seq.{take-append_seam, length-take-le}
 use borrow.Author.Tests.{eq-eqb, eqb-true, le-leb, leb-true}
+use Rattle.std.specs.Prelude.{Option, Some, None}
 use Rattle.packet.specs.Crc.{crc5_of, crc16_of}
-use Rattle.packet.specs.Packet.{Packet, token, sof, payload, handshake, token_pid, sof_pid, data_pid, handshake_pid, pid_byte, low, checked, target, encode, Bytes, in_range, kind_of}
+use Rattle.packet.specs.Packet.{Packet, token, sof, payload, handshake, token_pid, sof_pid, data_pid, handshake_pid, pid_of, pid_byte, low, checked, target, encode, Bytes, in_range, kind_of}
 use Rattle.packet.specs.Reply.{result, number}
-use Rattle.packet.specs.Reading.{word_at, read_rest, read_of}
+use Rattle.packet.specs.Reading.{word_at, read_rest, read_kind, read_of}
 use Rattle.packet.specs.declared.packet.Token.{Token}
 use Rattle.packet.specs.declared.packet.Token.TheVariants.{Out, In, Setup}
 use Rattle.packet.specs.declared.packet.Handshake.{Handshake}
 use Rattle.packet.specs.declared.packet.Handshake.TheVariants.{Ack, Nak, Stall}
 use Rattle.packet.specs.declared.packet.Kind.{Kind}
-use Rattle.packet.specs.declared.packet.Kind.TheVariants.{Token as token_kind, Sof as sof_kind, Data as data_kind, Handshake as handshake_kind, Unknown as unknown}
+use Rattle.packet.specs.declared.packet.Kind.TheVariants.{Token as token_kind, Sof as sof_kind, Data as data_kind, Handshake as handshake_kind}
 
 both : (a b : Bool) → (a && b) ≡ true → (a ≡ true) × (b ≡ true)
 both true b e = (refl, e)
@@ -26,36 +27,24 @@ both false b e = absurd (true≢false (sym e))
 
 -- ---- the PID byte
 
-kind_token : (k : Token) → kind_of (pid_byte (token_pid k)) ≡ token_kind k
+kind_back : (k : Kind) → kind_of (pid_byte (pid_of k)) ≡ Some k
 unfolding kind_of
-kind_token Out = refl
-kind_token In = refl
-kind_token Setup = refl
-
-kind_sof : kind_of (pid_byte sof_pid) ≡ sof_kind
-unfolding kind_of
-kind_sof = refl
-
-kind_data : (b : Bool) → kind_of (pid_byte (data_pid b)) ≡ data_kind b
-unfolding kind_of
-kind_data false = refl
-kind_data true = refl
-
-kind_handshake : (h : Handshake) → kind_of (pid_byte (handshake_pid h)) ≡ handshake_kind h
-unfolding kind_of
-kind_handshake Ack = refl
-kind_handshake Nak = refl
-kind_handshake Stall = refl
+kind_back (token_kind Out) = refl
+kind_back (token_kind In) = refl
+kind_back (token_kind Setup) = refl
+kind_back sof_kind = refl
+kind_back (data_kind false) = refl
+kind_back (data_kind true) = refl
+kind_back (handshake_kind Ack) = refl
+kind_back (handshake_kind Nak) = refl
+kind_back (handshake_kind Stall) = refl
 
 -- The byte of a kind.
-abbrev byte_of : Kind → ℕ → ℕ
-byte_of (token_kind k) x = pid_byte (token_pid k)
-byte_of sof_kind x = pid_byte sof_pid
-byte_of (data_kind b) x = pid_byte (data_pid b)
-byte_of (handshake_kind h) x = pid_byte (handshake_pid h)
-byte_of unknown x = x
+abbrev byte_of : Option Kind → ℕ → ℕ
+byte_of (Some k) x = pid_byte (pid_of k)
+byte_of None x = x
 
-pick : (x n : ℕ) (k r : Kind) → (x ≡ n → byte_of k x ≡ x) → byte_of r x ≡ x → byte_of (cond (eqb x n) k r) x ≡ x
+pick : (x n : ℕ) (k r : Option Kind) → (x ≡ n → byte_of k x ≡ x) → byte_of r x ≡ x → byte_of (cond (eqb x n) k r) x ≡ x
 pick x n k r f g = go (eqb x n) refl
   where
     go : (b : Bool) → eqb x n ≡ b → byte_of (cond b k r) x ≡ x
@@ -65,9 +54,9 @@ pick x n k r f g = go (eqb x n) refl
 kind_byte : (x : ℕ) → byte_of (kind_of x) x ≡ x
 unfolding kind_of
 kind_byte x =
-    pick x 0xE1 (token_kind Out) _ sym (pick x 0x69 (token_kind In) _ sym (pick x 0x2D (token_kind Setup) _ sym
-    (pick x 0xA5 sof_kind _ sym (pick x 0xC3 (data_kind false) _ sym (pick x 0x4B (data_kind true) _ sym
-    (pick x 0xD2 (handshake_kind Ack) _ sym (pick x 0x5A (handshake_kind Nak) _ sym (pick x 0x1E (handshake_kind Stall) unknown sym refl))))))))
+    pick x 0xE1 (Some (token_kind Out)) _ sym (pick x 0x69 (Some (token_kind In)) _ sym (pick x 0x2D (Some (token_kind Setup)) _ sym
+    (pick x 0xA5 (Some sof_kind) _ sym (pick x 0xC3 (Some (data_kind false)) _ sym (pick x 0x4B (Some (data_kind true)) _ sym
+    (pick x 0xD2 (Some (handshake_kind Ack)) _ sym (pick x 0x5A (Some (handshake_kind Nak)) _ sym (pick x 0x1E (Some (handshake_kind Stall)) None sym refl))))))))
 
 -- ---- fields in a word
 
@@ -127,10 +116,10 @@ pub read_write : (p : Packet) → in_range p ≡ true → read_of (encode p) ≡
 unfolding read_of encode
 read_write (token k a e) h =
     let f = both (leb a 127) (leb e 15) h in
-    rw (kind_token k) (read_token k a e (leb-true a 127 f.0) (leb-true e 15 f.1))
-read_write (sof f) h = rw kind_sof (read_sof f (leb-true f 2047 h))
-read_write (payload b d) h = rw (kind_data b) (read_data b d (leb-true (length d) 64 h))
-read_write (handshake k) h = rw (kind_handshake k)
+    rw (kind_back (token_kind k)) (read_token k a e (leb-true a 127 f.0) (leb-true e 15 f.1))
+read_write (sof f) h = rw (kind_back sof_kind) (read_sof f (leb-true f 2047 h))
+read_write (payload b d) h = rw (kind_back (data_kind b)) (read_data b d (leb-true (length d) 64 h))
+read_write (handshake k) h = rw (kind_back (handshake_kind k))
 
 -- ---- read, then written
 
@@ -235,15 +224,18 @@ write_handshake k x l p b e =
     let q = passed_one (eqb (length l) 0) (handshake k) p e in
     subst (Written x l) q.1 (record { bytes = ap₂ (λ (y : ℕ) (r : List ℕ). y ∷ r) b (sym (nothing l (eqb-true (length l) 0 q.0))); range = refl })
 
-write_rest : (k : Kind) (x : ℕ) (l : List ℕ) (p : Packet) → Bytes l → byte_of k x ≡ x → read_rest k l ≡ result p → Written x l p
+write_rest : (k : Kind) (x : ℕ) (l : List ℕ) (p : Packet) → Bytes l → pid_byte (pid_of k) ≡ x → read_rest k l ≡ result p → Written x l p
 write_rest (token_kind k) x l p h b e = write_token k x l p h b e
 write_rest sof_kind x l p h b e = write_sof x l p h b e
 write_rest (data_kind d) x l p h b e = write_data d x l p h b e
 write_rest (handshake_kind k) x l p h b e = write_handshake k x l p b e
-write_rest unknown x l p h b e = absurd (let z : ◌≡◌ {A = ℕ} 0 1 = cc in omega arith)
+
+write_kind : (k : Option Kind) (x : ℕ) (l : List ℕ) (p : Packet) → Bytes l → byte_of k x ≡ x → read_kind k l ≡ result p → Written x l p
+write_kind (Some k) x l p h b e = write_rest k x l p h b e
+write_kind None x l p h b e = absurd (let z : ◌≡◌ {A = ℕ} 0 1 = cc in omega arith)
 
 -- "every accepted byte string is what writing its reading gives", and its fields are in range.
 pub write_read : (l : List ℕ) (p : Packet) → Bytes l → read_of l ≡ result p → (encode p ≡ l) × (in_range p ≡ true)
 unfolding read_of
 write_read [] p h e = absurd (let z : ◌≡◌ {A = ℕ} 0 1 = cc in omega arith)
-write_read (x ∷ l) p h e = let w = write_rest (kind_of x) x l p h.1 (kind_byte x) e in (w.bytes, w.range)
+write_read (x ∷ l) p h e = let w = write_kind (kind_of x) x l p h.1 (kind_byte x) e in (w.bytes, w.range)

@@ -1,5 +1,5 @@
 -- Which answer each packet and each byte string deserves, in document 02's numbers and USB 2.0's.
-use Rattle.std.specs.Prelude.{◌≡◌, ◌⊎◌, Bool, true, false, cond, ◌||◌, List, [], ◌∷◌, ℕ, ◌+◌, ◌*◌, ◌/◌, ◌%◌, ◌≤◌, ◌<◌, eqb, leb, length, take, drop, get_or}
+use Rattle.std.specs.Prelude.{◌≡◌, Ok, ◌⊎◌, Bool, true, false, cond, ◌||◌, List, [], ◌∷◌, ℕ, ◌+◌, ◌*◌, ◌/◌, ◌%◌, ◌≤◌, ◌<◌, eqb, leb, length, take, drop, get_or}
 use Rattle.packet.specs.Crc.{Residual5, Residual16}
 use Rattle.packet.specs.Packet.{Packet, token, sof, payload, handshake, encode, Bytes}
 use Rattle.packet.specs.Reply.{Reply, result, number}
@@ -67,7 +67,7 @@ pub record Reads : Type 0 where
   pub token27 : (x : ℕ) (l : List ℕ) → Bytes l → begins3 x ≡ true → length l ≡ 2 → PacketOr27 (Residual5 (word_at l 0)) (read_of (x ∷ l))
   pub data27 : (x : ℕ) (l : List ℕ) → Bytes l → begins3to67 x ≡ true → 2 ≤ length l → length l ≤ 66 → PacketOr27 (Residual16 l) (read_of (x ∷ l))
   -- What the reader's answer means: a token's address, then its endpoint; `true` is DATA1, with the bytes that `data_of` hands out.
-  pub token_meant : (k : Token) (a e : ℕ) (d : List ℕ) → read_reply (token_read k a e) d ≡ result (token k a e)
-  pub sof_meant : (f : ℕ) (d : List ℕ) → read_reply (sof_read f) d ≡ result (sof f)
-  pub data_meant : (b : Bool) (d : List ℕ) → (read_reply (data_read b) d ≡ result (payload b d)) × (data_in (result (payload b d)) ≡ d)
-  pub handshake_meant : (h : Handshake) (d : List ℕ) → read_reply (handshake_read h) d ≡ result (handshake h)
+  pub token_meant : (k : Token) (a e : ℕ) (d : List ℕ) → read_reply (Ok (token_read k a e)) d ≡ result (token k a e)
+  pub sof_meant : (f : ℕ) (d : List ℕ) → read_reply (Ok (sof_read f)) d ≡ result (sof f)
+  pub data_meant : (b : Bool) (d : List ℕ) → (read_reply (Ok (data_read b)) d ≡ result (payload b d)) × (data_in (result (payload b d)) ≡ d)
+  pub handshake_meant : (h : Handshake) (d : List ℕ) → read_reply (Ok (handshake_read h)) d ≡ result (handshake h)

@@ -1,12 +1,12 @@
 -- Packets and their bytes (USB 2.0 sections 8.3 and 8.4).
-use Rattle.std.specs.Prelude.{Bool, true, false, cond, ◌&&◌, List, [], ◌∷◌, ◌++◌, ℕ, ◌+◌, ◌-◌, ◌*◌, ◌/◌, ◌%◌, ◌<◌, eqb, leb, length}
+use Rattle.std.specs.Prelude.{Option, Some, None, Bool, true, false, cond, ◌&&◌, List, [], ◌∷◌, ◌++◌, ℕ, ◌+◌, ◌-◌, ◌*◌, ◌/◌, ◌%◌, ◌<◌, eqb, leb, length}
 use Rattle.packet.specs.Crc.{crc5_of, crc16_of}
 use Rattle.packet.specs.declared.packet.Token.{Token}
 use Rattle.packet.specs.declared.packet.Token.TheVariants.{Out, In, Setup}
 use Rattle.packet.specs.declared.packet.Handshake.{Handshake}
 use Rattle.packet.specs.declared.packet.Handshake.TheVariants.{Ack, Nak, Stall}
 use Rattle.packet.specs.declared.packet.Kind.{Kind}
-use Rattle.packet.specs.declared.packet.Kind.TheVariants.{Token as token_kind, Sof as sof_kind, Data as data_kind, Handshake as handshake_kind, Unknown as unknown}
+use Rattle.packet.specs.declared.packet.Kind.TheVariants.{Token as token_kind, Sof as sof_kind, Data as data_kind, Handshake as handshake_kind}
 
 -- A packet: a token's address and endpoint, SOF's frame number, DATA0 (false) or DATA1 with its bytes, or a handshake.
 pub data Packet : Type 0 where
@@ -35,6 +35,13 @@ abbrev pub handshake_pid : Handshake → ℕ
 handshake_pid Ack = 2
 handshake_pid Nak = 10
 handshake_pid Stall = 14
+
+-- The PID that begins what a byte begins.
+abbrev pub pid_of : Kind → ℕ
+pid_of (token_kind k) = token_pid k
+pid_of sof_kind = sof_pid
+pid_of (data_kind b) = data_pid b
+pid_of (handshake_kind h) = handshake_pid h
 
 -- "PID byte with its check nibble": the complement of the PID in the high half.
 abbrev pub pid_byte : ℕ → ℕ
@@ -72,14 +79,14 @@ Bytes [] = Unit {0}
 Bytes (x ∷ l) = (x < 256) × Bytes l
 
 -- What a PID byte begins: "an unknown PID or wrong check nibble" begins nothing.
-unfoldable pub kind_of : ℕ → Kind
+unfoldable pub kind_of : ℕ → Option Kind
 kind_of x =
-    cond (eqb x (pid_byte (token_pid Out))) (token_kind Out)
-    (cond (eqb x (pid_byte (token_pid In))) (token_kind In)
-    (cond (eqb x (pid_byte (token_pid Setup))) (token_kind Setup)
-    (cond (eqb x (pid_byte sof_pid)) sof_kind
-    (cond (eqb x (pid_byte (data_pid false))) (data_kind false)
-    (cond (eqb x (pid_byte (data_pid true))) (data_kind true)
-    (cond (eqb x (pid_byte (handshake_pid Ack))) (handshake_kind Ack)
-    (cond (eqb x (pid_byte (handshake_pid Nak))) (handshake_kind Nak)
-    (cond (eqb x (pid_byte (handshake_pid Stall))) (handshake_kind Stall) unknown))))))))
+    cond (eqb x (pid_byte (token_pid Out))) (Some (token_kind Out))
+    (cond (eqb x (pid_byte (token_pid In))) (Some (token_kind In))
+    (cond (eqb x (pid_byte (token_pid Setup))) (Some (token_kind Setup))
+    (cond (eqb x (pid_byte sof_pid)) (Some sof_kind)
+    (cond (eqb x (pid_byte (data_pid false))) (Some (data_kind false))
+    (cond (eqb x (pid_byte (data_pid true))) (Some (data_kind true))
+    (cond (eqb x (pid_byte (handshake_pid Ack))) (Some (handshake_kind Ack))
+    (cond (eqb x (pid_byte (handshake_pid Nak))) (Some (handshake_kind Nak))
+    (cond (eqb x (pid_byte (handshake_pid Stall))) (Some (handshake_kind Stall)) None))))))))

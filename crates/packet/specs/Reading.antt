@@ -1,17 +1,23 @@
 -- Reading: "refuses with 25 an empty input, an unknown PID or wrong check nibble, then 26 a length wrong for the PID, then 27 a wrong CRC".
-use Rattle.std.specs.Prelude.{◌≡◌, Bool, true, false, cond, ◌&&◌, List, [], ◌∷◌, ℕ, suc, ◌+◌, ◌-◌, ◌*◌, ◌/◌, ◌%◌, eqb, leb, length, take, get_or}
+use Rattle.std.specs.Prelude.{◌≡◌, Option, Some, None, Result, Ok, Err, cond, ◌&&◌, List, [], ◌∷◌, ℕ, suc, ◌+◌, ◌-◌, ◌*◌, ◌/◌, ◌%◌, eqb, leb, length, take, get_or}
 use Rattle.packet.specs.Crc.{crc16_of}
 use Rattle.packet.specs.Packet.{Packet, token, sof, payload, handshake, checked, kind_of}
 use Rattle.packet.specs.Reply.{Reply, result, number}
 use Rattle.packet.specs.Refusal.{number_of}
+use Rattle.packet.specs.declared.refusal.Refusal.{Refusal}
+use Rattle.packet.specs.declared.refusal.Refusal.TheVariants.{Length, Crc}
 use Rattle.packet.specs.declared.packet.Kind.{Kind}
-use Rattle.packet.specs.declared.packet.Kind.TheVariants.{Token as token_kind, Sof as sof_kind, Data as data_kind, Handshake as handshake_kind, Unknown as unknown}
+use Rattle.packet.specs.declared.packet.Kind.TheVariants.{Token as token_kind, Sof as sof_kind, Data as data_kind, Handshake as handshake_kind}
 use Rattle.packet.specs.declared.reader.Reading.{Reading}
-use Rattle.packet.specs.declared.reader.Reading.TheVariants.{Token, Sof, Data, Handshake, Refused}
+use Rattle.packet.specs.declared.reader.Reading.TheVariants.{Token, Sof, Data, Handshake}
 
 -- The two bytes from i on as a number.
 abbrev pub word_at : List ℕ → ℕ → ℕ
 word_at l i = get_or l i 0 + 256 * get_or l (suc i) 0
+
+-- The eleven bits of two bytes, if their CRC5 is right.
+abbrev pub eleven_in : List ℕ → Result ℕ Refusal
+eleven_in l = cond (eqb (length l) 2) (cond (eqb (word_at l 0) (checked (word_at l 0 % 2048))) (Ok (word_at l 0 % 2048)) (Err Crc)) (Err Length)
 
 -- What two bytes after a PID say, if their CRC5 is right.
 abbrev pub eleven_of : List ℕ → Packet → Reply Packet
@@ -25,12 +31,16 @@ read_rest (data_kind b) l =
     cond (leb 2 (length l) && leb (length l) 66)
     (cond (eqb (word_at l (length l - 2)) (crc16_of (take (length l - 2) l))) (result (payload b (take (length l - 2) l))) (number 27)) (number 26)
 read_rest (handshake_kind h) l = cond (eqb (length l) 0) (result (handshake h)) (number 26)
-read_rest unknown l = number 25
+
+-- "an unknown PID or wrong check nibble", else what the rest says.
+abbrev pub read_kind : Option Kind → List ℕ → Reply Packet
+read_kind (Some k) l = read_rest k l
+read_kind None l = number 25
 
 -- The reading of bytes, or a number.
 unfoldable pub read_of : List ℕ → Reply Packet
 read_of [] = number 25
-read_of (x ∷ l) = read_rest (kind_of x) l
+read_of (x ∷ l) = read_kind (kind_of x) l
 
 -- The bytes of a data packet's reading.
 abbrev pub data_in : Reply Packet → List ℕ
@@ -41,21 +51,13 @@ data_in (result (handshake h)) = []
 data_in (number n) = []
 
 -- The reader's answer in these terms, with the data that it hands out apart.
-abbrev pub read_reply : Reading → List ℕ → Reply Packet
-read_reply (Token k a e) d = result (token k a e)
-read_reply (Sof f) d = result (sof f)
-read_reply (Data b) d = result (payload b d)
-read_reply (Handshake h) d = result (handshake h)
-read_reply (Refused why) d = number (number_of why)
+abbrev pub read_reply : Result Reading Refusal → List ℕ → Reply Packet
+read_reply (Ok (Token k a e)) d = result (token k a e)
+read_reply (Ok (Sof f)) d = result (sof f)
+read_reply (Ok (Data b)) d = result (payload b d)
+read_reply (Ok (Handshake h)) d = result (handshake h)
+read_reply (Err why) d = number (number_of why)
 
 -- What was answered is the reading.
-abbrev pub Answers : Reply Packet → Reading → Type 0
+abbrev pub Answers : Reply Packet → Result Reading Refusal → Type 0
 Answers y r = read_reply r (data_in y) ≡ y
-
--- A data packet was read.
-abbrev pub is_data : Reading → Bool
-is_data (Token k a e) = false
-is_data (Sof f) = false
-is_data (Data b) = true
-is_data (Handshake h) = false
-is_data (Refused why) = false

@@ -37,18 +37,20 @@ fn crc_byte(table: &[u16; 256], c: u16, x: u8) -> u16
     (c / 256) ^ table[n]
 }
 
+#[tactic(auto, unfolding(crate::specs::Crc::crc16_of, crate::specs::Crc::remainder16))]
 fn crc16_by(table: &[u16; 256], bytes: &[u8]) -> u16
     requires { Tabled table.now }
     ensures { result ≡ crc16_of bytes.now }
 {
     let mut c: u16 = 0xFFFF;
-    for i in 0..bytes.len() {
-        c = crc_byte(table, c, bytes[i]);
+    for x in bytes {
+        c = crc_byte(table, c, *x);
     }
     0xFFFF - c
 }
 
 // CRC16 of data. The table is lent, so that it is not built anew for each byte.
+#[tactic(auto, using(crate::proofs::Entries::tabled))]
 pub fn crc16(bytes: &[u8]) -> u16
     ensures { result ≡ crc16_of bytes.now }
 {
@@ -64,6 +66,7 @@ fn crc5_bit(c: u16, bit: u16) -> u16
 }
 
 // CRC5 of the low eleven bits.
+#[tactic(auto, unfolding(crate::specs::Crc::crc5_of, crate::specs::Crc::crc_bits))]
 pub fn crc5(v: u16) -> u16
     ensures { (result ≡ crc5_of v) × (result ≤ 31) }
 {

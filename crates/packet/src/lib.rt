@@ -3,7 +3,6 @@
 
 pub mod crc;
 pub mod packet;
-mod put;
 pub mod reader;
 pub mod refusal;
 pub mod writer;

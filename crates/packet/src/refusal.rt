@@ -11,14 +11,16 @@ pub enum Refusal {
     Crc,
 }
 
-pub fn number(refusal: Refusal) -> u8
-    ensures { result ≡ number_of refusal }
-{
-    match refusal {
-        Refusal::Field => 19,
-        Refusal::Room => 21,
-        Refusal::Pid => 25,
-        Refusal::Length => 26,
-        Refusal::Crc => 27,
+impl From<Refusal> for u8 {
+    ghost from_gives = { λ refusal number. number ≡ number_of refusal };
+
+    fn from(refusal: Refusal) -> u8 {
+        match refusal {
+            Refusal::Field => 19,
+            Refusal::Room => 21,
+            Refusal::Pid => 25,
+            Refusal::Length => 26,
+            Refusal::Crc => 27,
+        }
     }
 }

@@ -1,11 +1,11 @@
 // The benchmark of packets: a workload named by a letter on standard input (docs/BENCHMARKS.md), then what it left.
 #![tactic(auto)]
 
-use export::{ExportAnswer, export};
+use export::export;
 use input::read_full;
 use packet::crc::crc16;
-use printing::{print_decimal, print_text};
 use std::io;
+use std::io::Write;
 
 // Byte i of a record of version 2 whose entries are OUT packets of 64 bytes, each a group.
 fn record_byte(i: usize) -> u8 {
@@ -33,15 +33,8 @@ fn entry_byte(place: usize, i: usize) -> u8 {
 }
 
 fn fill(bytes: &mut [u8]) {
-    for i in 0..bytes.len() {
-        bytes[i] = record_byte(i);
-    }
-}
-
-fn used(answer: ExportAnswer) -> usize {
-    match answer {
-        ExportAnswer::Used(n) => n,
-        ExportAnswer::Refused(_) => 0,
+    for (i, b) in bytes.iter_mut().enumerate() {
+        *b = record_byte(i);
     }
 }
 
@@ -49,7 +42,7 @@ fn used(answer: ExportAnswer) -> usize {
 fn run(letter: u8, record: &[u8], out: &mut [u8]) -> usize {
     match letter {
         b'C' => crc16(record) as usize,
-        b'E' => used(export(record, out)),
+        b'E' => export(record, out).unwrap_or(0),
         _ => 0,
     }
 }
@@ -61,7 +54,5 @@ fn main(rt: HostRuntime) -> io::Result<()> {
     fill(&mut record);
     read_full(&mut rt.stdin(), &mut letter)?;
     let left = run(letter[0], &record, &mut out);
-    let mut out = rt.stdout();
-    print_decimal(&mut out, left as u64)?;
-    print_text(&mut out, b"\n")
+    writeln!(rt.stdout(), "{left}")
 }

@@ -1,51 +1,52 @@
 -- What a line asks for: the program's table, line by line. Fields, numbers and BYTES are the replay script's.
-use Rattle.std.specs.Prelude.{Bool, true, false, cond, List, [], ◌∷◌, ℕ, eqb}
+use Rattle.std.specs.Prelude.{Bool, true, false, cond, List, [], ◌∷◌, ℕ, eqb, Option, Some, None, Result, Ok, Err}
 use Rattle.script.specs.Parts.{field_of, fields_of, same_text}
 use Rattle.script.specs.Bytes.{bytes_of, count_in, stored_in}
 use Rattle.script.specs.Typed.{byte_at, half_at, length_at, count_at, stored_at}
-use Rattle.script.specs.Lines.{with_byte, with_half, with_count, word_lend, is_skipped}
+use Rattle.script.specs.Lines.{with_read, word_lend, is_skipped}
+use Rattle.input.specs.declared.Unreadable.{Unreadable}
 use Rattle.packet.specs.declared.packet.Token.{Token}
 use Rattle.packet.specs.declared.packet.Token.TheVariants.{Out, In, Setup}
 use Rattle.packet.specs.declared.packet.Handshake.TheVariants.{Ack, Nak, Stall}
 use Rattle.packets.specs.declared.line.Command.{Command}
-use Rattle.packets.specs.declared.line.Command.TheVariants.{Skipped, Wrong, Lend, Read, WriteToken, WriteSof, WriteData, WriteHandshake}
+use Rattle.packets.specs.declared.line.Command.TheVariants.{Lend, Read, WriteToken, WriteSof, WriteData, WriteHandshake}
 
--- What a line asks for, and the lent bytes with its BYTES at their start.
+-- What a line asks for, if it can be read, and the lent bytes with its BYTES at their start.
 pub record Asked : Type 0 where
-  pub command : Command
+  pub command : Option Command
   pub stored : List ℕ
 
 -- A line's command beside the lent bytes.
-abbrev pub asked : Command → List ℕ → Asked
+abbrev pub asked : Option Command → List ℕ → Asked
 asked c out = record { command = c; stored = out }
 
 -- `out A E`, `in A E`, `setup A E`: "A and E are unreadable above 255".
-unfoldable pub token_of : Token → List ℕ → Command
+unfoldable pub token_of : Token → List ℕ → Option Command
 token_of kind line =
     cond (eqb (fields_of line) 3)
-    (with_byte (byte_at line 1) Wrong λ address.
-    (with_byte (byte_at line 2) Wrong λ endpoint.
-    WriteToken kind address endpoint))
-    Wrong
+    (with_read (byte_at line 1) None λ address.
+    (with_read (byte_at line 2) None λ endpoint.
+    Some (WriteToken kind address endpoint)))
+    None
 
 -- `sof N`: "a frame number above 65,535".
-unfoldable pub sof_of : List ℕ → Command
-sof_of line = cond (eqb (fields_of line) 2) (with_half (half_at line 1) Wrong λ frame. WriteSof frame) Wrong
+unfoldable pub sof_of : List ℕ → Option Command
+sof_of line = cond (eqb (fields_of line) 2) (with_read (half_at line 1) None λ frame. Some (WriteSof frame)) None
 
 -- `data0 BYTES` (false), `data1 BYTES`.
 unfoldable pub data_of : Bool → List ℕ → List ℕ → Asked
 data_of second line out =
     cond (eqb (fields_of line) 2)
-    (asked (with_count (count_at line 1) Wrong λ n. WriteData second n) (stored_at out line 1))
-    (asked Wrong out)
+    (asked (with_read (count_at line 1) None λ n. Some (WriteData second n)) (stored_at out line 1))
+    (asked None out)
 
 -- `lend N`: "N bytes, 0 to 67".
-unfoldable pub lend_of : List ℕ → Command
-lend_of line = cond (eqb (fields_of line) 2) (with_count (length_at line 1 67) Wrong λ n. Lend n) Wrong
+unfoldable pub lend_of : List ℕ → Option Command
+lend_of line = cond (eqb (fields_of line) 2) (with_read (length_at line 1 67) None λ n. Some (Lend n)) None
 
 -- BYTES: a packet to be read.
 unfoldable pub packet_of : List ℕ → List ℕ → Asked
-packet_of line out = asked (with_count (count_in (bytes_of line)) Wrong λ n. Read n) (stored_in out (bytes_of line))
+packet_of line out = asked (with_read (count_in (bytes_of line)) None λ n. Some (Read n)) (stored_in out (bytes_of line))
 
 -- `ack`, in ASCII; so are the words below.
 abbrev pub word_ack : List ℕ
@@ -86,9 +87,9 @@ word_setup = 115 ∷ 101 ∷ 116 ∷ 117 ∷ 112 ∷ []
 -- The handshakes, which stand alone on their line; any other line is BYTES.
 unfoldable pub alone_of : List ℕ → List ℕ → Asked
 alone_of line out =
-    cond (same_text line word_ack) (asked (WriteHandshake Ack) out)
-    (cond (same_text line word_nak) (asked (WriteHandshake Nak) out)
-    (cond (same_text line word_stall) (asked (WriteHandshake Stall) out) (packet_of line out)))
+    cond (same_text line word_ack) (asked (Some (WriteHandshake Ack)) out)
+    (cond (same_text line word_nak) (asked (Some (WriteHandshake Nak)) out)
+    (cond (same_text line word_stall) (asked (Some (WriteHandshake Stall)) out) (packet_of line out)))
 
 -- By a line's first word: data, SOF and `lend`; any other line is one word.
 unfoldable pub other_of : List ℕ → List ℕ → List ℕ → Asked
@@ -105,6 +106,15 @@ word_of word line out =
     (cond (same_text word word_in) (asked (token_of In line) out)
     (cond (same_text word word_setup) (asked (token_of Setup line) out) (other_of word line out)))
 
+-- What a line asks for, nothing if it is skipped, or that it can't be read.
+pub record Parsed : Type 0 where
+  pub command : Result (Option Command) Unreadable
+  pub stored : List ℕ
+
+-- A line that isn't skipped asks for its command, or can't be read.
+abbrev pub parsed : Asked → Parsed
+parsed a = record { command = with_read a.command (Err (record {})) λ command. Ok (Some command); stored = a.stored }
+
 -- What a line asks for.
-unfoldable pub line_of : List ℕ → List ℕ → Asked
-line_of line out = cond (is_skipped line) (asked Skipped out) (word_of (field_of line 0) line out)
+unfoldable pub line_of : List ℕ → List ℕ → Parsed
+line_of line out = cond (is_skipped line) (record { command = Ok None; stored = out }) (parsed (word_of (field_of line 0) line out))

@@ -4,65 +4,40 @@
 mod answer;
 mod line;
 
-use crate::answer::answer;
+use crate::answer::{LONGEST, answer};
 use crate::line::{Command, parse};
-use input::{first, is_too_long, read_input};
+use input::{TOO_LONG, Unreadable, first, is_too_long, read_input};
 use printing::{print_refused, print_unreadable};
-use script::field::end_of;
 use std::io;
 use std::io::Write;
 
-// Answers one line, and says how many bytes are lent to the lines after it.
-fn take_command<W: Write>(
-    out: &mut W,
-    command: Command,
-    bytes: &[u8; 131072],
-    number: usize,
-    lent: usize,
-) -> io::Result<usize> {
-    match command {
-        Command::Skipped => Ok(lent),
-        Command::Wrong => {
-            print_unreadable(out, number)?;
-            Ok(lent)
-        }
-        Command::Lend(n) => {
-            answer(out, command, bytes, lent)?;
-            Ok(n)
-        }
-        _ => {
-            answer(out, command, bytes, lent)?;
-            Ok(lent)
-        }
-    }
-}
-
+// `shortgroups` goes over lines in the same way: what is said of a line differs, and one loop over a closure would be no shorter.
 fn answer_lines<W: Write>(out: &mut W, text: &[u8], bytes: &mut [u8; 131072]) -> io::Result<()> {
-    let mut at: usize = 0;
-    let mut number: usize = 0;
-    let mut lent: usize = 67;
-    while at < text.len() {
-        number += 1;
-        let end = at + end_of(&text[at..], b'\n');
-        let command = parse(&text[at..end], bytes);
-        lent = take_command(out, command, bytes, number, lent)?;
-        at = end + 1;
+    let mut lent = LONGEST;
+    for (i, line) in text.split(|b| *b == b'\n').enumerate() {
+        match parse(line, bytes) {
+            Ok(Some(command)) => {
+                answer(out, command, bytes, lent)?;
+                if let Command::Lend(n) = command {
+                    lent = n;
+                }
+            }
+            Ok(None) => {}
+            Err(Unreadable) => print_unreadable(out, i + 1)?,
+        }
     }
     Ok(())
-}
-
-fn answer_input<W: Write>(out: &mut W, text: &[u8], bytes: &mut [u8; 131072]) -> io::Result<()> {
-    if is_too_long(text) {
-        print_refused(out, 21)
-    } else {
-        answer_lines(out, text, bytes)
-    }
 }
 
 fn main(rt: HostRuntime) -> io::Result<()> {
     let mut room = [0u8; 65537];
     let mut bytes = [0u8; 131072];
     let n = read_input(&mut rt.stdin(), &mut room)?;
+    let text = first(&room, n);
     let mut out = rt.stdout();
-    answer_input(&mut out, first(&room, n), &mut bytes)
+    if is_too_long(text) {
+        print_refused(&mut out, TOO_LONG)
+    } else {
+        answer_lines(&mut out, text, &mut bytes)
+    }
 }

@@ -8,9 +8,9 @@ use lib.Dec.{leb}
 use lib.ListN.{length, drop, get_or, get_or-eq_default}
 use borrow.Author.Tests.{leb-true, leb-false}
 use Rattle.pool.proofs.Cases.{by_cases}
+use Rattle.std.specs.Prelude.{Result, Ok, Err}
+use Rattle.poll.specs.declared.refusal.Refusal.{Refusal}
 use Rattle.poll.specs.declared.refusal.Refusal.TheVariants.{Format, Bounds}
-use Rattle.poll.specs.declared.table.LoadAnswer.{LoadAnswer}
-use Rattle.poll.specs.declared.table.LoadAnswer.TheVariants.{Taken, Refused}
 use Rattle.poll.specs.Table.{capped, built_in_of}
 use Rattle.poll.specs.Reply.{Reply, result, number, number_of}
 use Rattle.poll.specs.File.{is_version1, all_good, bounded_table, table_in}
@@ -66,10 +66,10 @@ is_result : Reply (List ℕ) → Bool
 is_result (result t) = true
 is_result (number n) = false
 
-only_taken : (a : LoadAnswer) (s t : List ℕ) → load_reply a s ≡ result t → a ≡ Taken
+only_taken : (a : Result (Unit {0}) Refusal) (s t : List ℕ) → load_reply a s ≡ result t → a ≡ Ok tt
 unfolding is_result
-only_taken Taken s t e = refl
-only_taken (Refused why) s t e = absurd (true≢false (sym (ap is_result e)))
+only_taken (Ok x) s t e = refl
+only_taken (Err why) s t e = absurd (true≢false (sym (ap is_result e)))
 
 -- The entries of a file whose table is taken.
 entry_at : (f t : List ℕ) → table_in f ≡ result t → (i : ℕ) → get_or t i 0 ≡ get_or f (5 + i) 0
@@ -88,13 +88,13 @@ entry_at f t e i = go (deserves f)
         ∙ ap (λ (k : ℕ). get_or (0x50 ∷ 0x49 ∷ 0x54 ∷ 1 ∷ 0 ∷ u) k 0) past ∙ ap (λ (l : List ℕ). get_or l (5 + i) 0) (sym x.bytes)
 
 -- The answer is the reply's.
-pub answer_is : (a : LoadAnswer) (t : List ℕ) (y : Reply (List ℕ)) → load_reply a t ≡ y → a ≡ answer_of y
+pub answer_is : (a : Result (Unit {0}) Refusal) (t : List ℕ) (y : Reply (List ℕ)) → load_reply a t ≡ y → a ≡ answer_of y
 answer_is a t y e = told a ∙ ap answer_of e
   where
-    told : (a : LoadAnswer) → a ≡ answer_of (load_reply a t)
-    told Taken = refl
-    told (Refused Format) = refl
-    told (Refused Bounds) = refl
+    told : (a : Result (Unit {0}) Refusal) → a ≡ answer_of (load_reply a t)
+    told (Ok x) = refl
+    told (Err Format) = refl
+    told (Err Bounds) = refl
 
 -- A number is that of its refusal.
 number_in : Reply (List ℕ) → ℕ
@@ -162,6 +162,6 @@ loads = record {
   taken_meant = λ t. refl;
   format_meant = λ t. (refl, refl);
   bounds_meant = λ t. (refl, refl);
-  replaced = λ old f t r k e. (only_taken r.answer r.table t (k.answer ∙ e), k.table ∙ ap (table_after old) e);
-  left_alone = λ old f n r k e. (k.answer ∙ e, k.table ∙ ap (table_after old) e);
+  replaced = λ old f t table r k e. (only_taken r table t (k.answer ∙ e), k.table ∙ ap (table_after old) e);
+  left_alone = λ old f table n r k e. (k.answer ∙ e, k.table ∙ ap (table_after old) e);
 }

@@ -1,8 +1,7 @@
 -- What document 02 asks of a house's own poll table, as one statement.
-use Rattle.std.specs.Prelude.{◌≡◌, List, ◌∷◌, ℕ, ◌+◌, ◌≤◌, min, length, get_or}
+use Rattle.std.specs.Prelude.{◌≡◌, Result, Ok, Err, List, ◌∷◌, ℕ, ◌+◌, ◌≤◌, min, length, get_or}
+use Rattle.poll.specs.declared.refusal.Refusal.{Refusal}
 use Rattle.poll.specs.declared.refusal.Refusal.TheVariants.{Format, Bounds}
-use Rattle.poll.specs.declared.table.LoadAnswer.TheVariants.{Taken, Refused}
-use Rattle.poll.specs.declared.table.Loaded.{Loaded}
 use Rattle.poll.specs.Table.{built_in_of}
 use Rattle.poll.specs.Reply.{Reply, result, number, number_of}
 use Rattle.poll.specs.File.{table_in}
@@ -37,9 +36,9 @@ pub record Loads : Type 0 where
   -- Entry i is the byte 5 + i of the file.
   pub entry : (f t : List ℕ) → table_in f ≡ result t → (i : ℕ) → get_or t i 0 ≡ get_or f (5 + i) 0
   -- What the answer means.
-  pub taken_meant : (t : List ℕ) → load_reply Taken t ≡ result t
-  pub format_meant : (t : List ℕ) → (load_reply (Refused Format) t ≡ number 28) × (number_of Format ≡ 28)
-  pub bounds_meant : (t : List ℕ) → (load_reply (Refused Bounds) t ≡ number 29) × (number_of Bounds ≡ 29)
+  pub taken_meant : (t : List ℕ) → load_reply (Ok tt) t ≡ result t
+  pub format_meant : (t : List ℕ) → (load_reply (Err Format) t ≡ number 28) × (number_of Format ≡ 28)
+  pub bounds_meant : (t : List ℕ) → (load_reply (Err Bounds) t ≡ number 29) × (number_of Bounds ≡ 29)
   -- What `Took` says, which `load` promises: a taken table stands in the old one's place, and a refused file leaves that.
-  pub replaced : (old f t : List ℕ) (r : Loaded) → Took old (table_in f) r → table_in f ≡ result t → (r.answer ≡ Taken) × (r.table ≡ t)
-  pub left_alone : (old f : List ℕ) (n : ℕ) (r : Loaded) → Took old (table_in f) r → table_in f ≡ number n → (load_reply r.answer r.table ≡ number n) × (r.table ≡ old)
+  pub replaced : (old f t table : List ℕ) (r : Result (Unit {0}) Refusal) → Took old (table_in f) r table → table_in f ≡ result t → (r ≡ Ok tt) × (table ≡ t)
+  pub left_alone : (old f table : List ℕ) (n : ℕ) (r : Result (Unit {0}) Refusal) → Took old (table_in f) r table → table_in f ≡ number n → (load_reply r table ≡ number n) × (table ≡ old)

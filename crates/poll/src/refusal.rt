@@ -8,11 +8,13 @@ pub enum Refusal {
     Bounds,
 }
 
-pub fn number(refusal: Refusal) -> u8
-    ensures { result ≡ number_of refusal }
-{
-    match refusal {
-        Refusal::Format => 28,
-        Refusal::Bounds => 29,
+impl From<Refusal> for u8 {
+    ghost from_gives = { λ refusal number. number ≡ number_of refusal };
+
+    fn from(refusal: Refusal) -> u8 {
+        match refusal {
+            Refusal::Format => 28,
+            Refusal::Bounds => 29,
+        }
     }
 }

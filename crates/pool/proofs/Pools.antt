@@ -1,4 +1,5 @@
 -- Laws of pools: which index is handed out, when none is, and that a freed index is used again. Assumes nothing.
+use Rattle.std.specs.Prelude.{None, Some}
 use Prim.Native.Nat.{ℕ, min, ◌<◌, ◌≤◌, ◌^◌}
 use mathlib.Core.Path.{◌≡◌, refl, ap, sym, ◌∙◌}
 use mathlib.Core.Bool.{Bool, true, false, cond, not, ◌&&◌, ◌||◌}
@@ -7,7 +8,6 @@ use borrow.Author.Tests.{ltb-true, ltb-false, lt-ltb, eqb-true, eq-eqb, ne_eqb}
 use lib.Dec.{eqb, ltb}
 use Rattle.pool.specs.declared.async_pool.Pool.{Pool}
 use Rattle.pool.specs.declared.async_pool.PoolIndex.{PoolIndex}
-use Rattle.pool.specs.declared.async_pool.OptionIndex.TheVariants.{Some, None}
 use Rattle.pool.specs.Set.{has, insert, remove, lowest_out}
 use Rattle.pool.specs.Pool.{hand_out, alloc_of, free_of}
 use Rattle.pool.proofs.Sets.{has_remove, remove_none, set_of_is, lowest_out_no, lowest_out_below, lowest_out_is}

@@ -1,4 +1,5 @@
 -- Laws of sets: who is a member after each operation, and what the lowest number of a kind is. Assumes nothing.
+use Rattle.std.specs.Prelude.{None, Some}
 use Prim.Native.Nat.{ℕ, zero, suc, ◌+◌, ◌*◌, ◌/◌, ◌%◌, ◌^◌, ◌<◌, ◌≤◌}
 use mathlib.Core.Path.{◌≡◌, refl, ap, ap₂, sym, ◌∙◌}
 use mathlib.Core.Bool.{Bool, true, false, cond, not, ◌&&◌, ◌||◌, or-false, true≢false}
@@ -8,7 +9,6 @@ use lib.Dec.{eqb, ltb, leb-suc-zero, leb-suc-suc}
 use lib.Pow.{shr-shr}
 use borrow.Author.Tests.{ltb-true, ltb-false, lt-ltb, le-ltb, eqb-true, eqb-false, eq-eqb, ne_eqb, not-true, not-false}
 use Rattle.pool.specs.Set.{has, set_of, insert, remove, first_where, lowest_out, option_of}
-use Rattle.pool.specs.declared.bitset.OptionU8.TheVariants.{Some, None}
 
 -- ---- members, bit by bit
 

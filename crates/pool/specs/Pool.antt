@@ -1,8 +1,7 @@
 -- What each call on a pool answers.
-use Rattle.std.specs.Prelude.{ℕ, min, cond, ltb}
+use Rattle.std.specs.Prelude.{ℕ, min, cond, ltb, None, Some}
 use Rattle.pool.specs.declared.async_pool.Pool.{Pool}
 use Rattle.pool.specs.declared.async_pool.PoolIndex.{PoolIndex}
-use Rattle.pool.specs.declared.async_pool.OptionIndex.TheVariants.{Some, None}
 use Rattle.pool.specs.declared.async_pool.Allocated.{Allocated}
 use Rattle.pool.specs.declared.async_pool.Freed.{Freed}
 use Rattle.pool.specs.Set.{has, insert, remove, lowest_out}

@@ -1,8 +1,6 @@
 -- What a set of the numbers 0 to 31 is, and what each call on one answers.
-use Rattle.std.specs.Prelude.{ℕ, zero, suc, ◌+◌, ◌*◌, ◌/◌, ◌%◌, ◌^◌, Bool, cond, not, ◌&&◌, ◌||◌, eqb, ltb}
+use Rattle.std.specs.Prelude.{ℕ, zero, suc, ◌+◌, ◌*◌, ◌/◌, ◌%◌, ◌^◌, Bool, cond, not, ◌&&◌, ◌||◌, eqb, ltb, None, Option, Some}
 use Rattle.pool.specs.declared.bitset.BitSet.{BitSet}
-use Rattle.pool.specs.declared.bitset.OptionU8.{OptionU8}
-use Rattle.pool.specs.declared.bitset.OptionU8.TheVariants.{Some, None}
 use Rattle.pool.specs.declared.bitset.Taken.{Taken}
 
 -- n is a member of the set s: bit n of the word is 1.
@@ -32,7 +30,7 @@ unfoldable pub lowest_out : ℕ → ℕ
 lowest_out s = first_where 32 0 (λ k. not (has s k))
 
 -- The number n where it is one of 0 to 31.
-unfoldable pub option_of : ℕ → OptionU8
+unfoldable pub option_of : ℕ → Option ℕ
 option_of n = cond (ltb n 32) (Some n) None
 
 -- set_any takes the lowest clear bit; a full set stays as it is.

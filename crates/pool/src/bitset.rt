@@ -5,17 +5,11 @@ ghost use Rattle.pool.specs.Set.{has, insert, remove, set_any_of};
 #[derive(Clone, Copy)]
 pub struct BitSet(pub u32);
 
-#[derive(Clone, Copy)]
-pub enum OptionU8 {
-    Some(u8),
-    None,
-}
-
 // The set after set_any, and the number that it took.
 #[derive(Clone, Copy)]
 pub struct Taken {
     pub set: BitSet,
-    pub number: OptionU8,
+    pub number: Option<u8>,
 }
 
 impl BitSet {
@@ -49,28 +43,24 @@ impl BitSet {
     pub fn contains(self, n: u8) -> bool
         ensures { result ≡ has self.0 n }
     {
-        if n < 32 {
-            (self.0 & (1 << n)) != 0
-        } else {
-            false
-        }
+        n < 32 && self.0 & (1 << n) != 0
     }
 
     // Adds the lowest number that is no member.
     pub fn set_any(self) -> Taken
         ensures { result ≡ set_any_of self }
     {
-        let next = u32::trailing_zeros(!self.0);
+        let next = (!self.0).trailing_zeros();
         if next < 32 {
             let n = next as u8;
             Taken {
                 set: self.set(n),
-                number: OptionU8::Some(n),
+                number: Some(n),
             }
         } else {
             Taken {
                 set: self,
-                number: OptionU8::None,
+                number: None,
             }
         }
     }

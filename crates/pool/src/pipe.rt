@@ -1,17 +1,11 @@
 ghost use Rattle.std.specs.Prelude.{◌≡◌};
 ghost use Rattle.pool.specs.Pipe.{pipe_of, index_of};
 
-use crate::async_pool::{OptionIndex, PoolIndex};
+use crate::async_pool::PoolIndex;
 
 // The number of an interrupt pipe, counted from 1.
 #[derive(Clone, Copy)]
 pub struct PipeNumber(pub u8);
-
-#[derive(Clone, Copy)]
-pub enum OptionPipe {
-    Some(PipeNumber),
-    None,
-}
 
 const PIPES: u8 = 15;
 
@@ -19,29 +13,24 @@ const OFFSET: u8 = 1;
 
 impl PoolIndex {
     // Index 0 to 14 is pipe 1 to 15.
-    pub fn pipe(self) -> OptionPipe
+    #[tactic(auto, unfolding(crate::specs::Pipe::pipe_of))]
+    pub fn pipe(self) -> Option<PipeNumber>
         ensures { result ≡ pipe_of self }
     {
         if self.0 < PIPES {
-            OptionPipe::Some(PipeNumber(self.0 + OFFSET))
+            Some(PipeNumber(self.0 + OFFSET))
         } else {
-            OptionPipe::None
+            None
         }
     }
 }
 
 impl PipeNumber {
-    pub fn index(self) -> OptionIndex
+    #[tactic(auto, unfolding(crate::specs::Pipe::index_of))]
+    pub fn index(self) -> Option<PoolIndex>
         ensures { result ≡ index_of self }
     {
-        if self.0 < OFFSET {
-            return OptionIndex::None;
-        }
-        let i = self.0 - OFFSET;
-        if i < PIPES {
-            OptionIndex::Some(PoolIndex(i))
-        } else {
-            OptionIndex::None
-        }
+        let i = self.0.checked_sub(OFFSET)?;
+        (i < PIPES).then_some(PoolIndex(i))
     }
 }

@@ -1,12 +1,31 @@
-// What the listings print alike.
+// What the listings print alike. `print_text`, `print_decimal`, `print_number` and `print_byte` are one macro each: docs/CONTRACTS.md promises what each function here appends.
 #![tactic(auto)]
 
-ghost use Rattle.std.specs.Prelude.{◌∷◌, ◌++◌, OnOk, codes};
+ghost use Rattle.std.specs.Prelude.{Some, ◌∷◌, ◌++◌, OnOk, codes};
 ghost use Rattle.std.specs.Fmt.{decimal};
 ghost use Rattle.std.specs.Io.KnownBytes.{Appends};
+ghost use Rattle.printing.specs.Hex.{hex_text, two_digits};
 
-use std::io;
 use std::io::Write;
+use std::{fmt, io};
+
+// Bytes as two digits each, `-` for none.
+#[derive(Clone, Copy)]
+pub struct Hex<'a>(pub &'a [u8]);
+
+impl fmt::Display for Hex<'_> {
+    ghost output = { λ hex. Some (hex_text hex.0.now) };
+
+    fn fmt<W: fmt::Write>(&self, f: &mut fmt::Formatter<W>) -> fmt::Result {
+        if self.0.is_empty() {
+            return f.write_str("-");
+        }
+        for &b in self.0 {
+            write!(f, "{b:02x}")?;
+        }
+        Ok(())
+    }
+}
 
 pub fn print_text<W: Write>(out: &mut W, text: &[u8]) -> io::Result<()>
     ensures { OnOk result (Appends (W.contents out.old) (W.contents out.new) text.now) }
@@ -29,7 +48,10 @@ pub fn print_number<W: Write>(out: &mut W, n: usize) -> io::Result<()>
 }
 
 // Two digits.
-pub fn print_byte<W: Write>(out: &mut W, b: u8) -> io::Result<()> {
+#[tactic(auto, using(std::proofs::lemmas::Fmt::hex_byte))]
+pub fn print_byte<W: Write>(out: &mut W, b: u8) -> io::Result<()>
+    ensures { OnOk result (Appends (W.contents out.old) (W.contents out.new) (two_digits b)) }
+{
     write!(out, "{b:02x}")
 }
 

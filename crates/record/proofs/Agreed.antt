@@ -1,4 +1,5 @@
 -- The transfer under way, as the calls tell it, is the driver's; so a begin answers what the table says. Assumes nothing.
+use Rattle.std.specs.Prelude.{Err, None, Ok, Option, Result, Some}
 use mathlib.Core.Path.{◌≡◌, refl, sym, ap, ◌∙◌, subst}
 use mathlib.Core.Bool.{Bool, true, false, true≢false, ◌&&◌}
 use mathlib.Core.List.{List, [], ◌∷◌}
@@ -6,18 +7,10 @@ use Prim.Native.Nat.{ℕ, ◌+◌}
 use lib.ListN.{length}
 use lib.Dec.{eqb, leb}
 use Rattle.transfers.specs.declared.wire.Direction.TheVariants.{In, Out}
-use Rattle.transfers.specs.declared.refusal.OptionRefusal.{OptionRefusal}
-use Rattle.transfers.specs.declared.refusal.OptionRefusal.TheVariants.{Some, None}
-use Rattle.transfers.specs.declared.answers.BeginAnswer.{BeginAnswer}
-use Rattle.transfers.specs.declared.answers.BeginAnswer.TheVariants.{Begun as accepted, Refused as refused_begin}
-use Rattle.transfers.specs.declared.answers.StepAnswer.{StepAnswer}
-use Rattle.transfers.specs.declared.answers.StepAnswer.TheVariants.{Waiting, Done, Refused}
 use Rattle.transfers.specs.declared.answers.Armed.{Armed}
 use Rattle.transfers.specs.declared.sample.Sample.{Sample}
 use Rattle.transfers.specs.declared.driver.DeskRule.{DeskRule}
 use Rattle.transfers.specs.declared.driver.Driver.{Driver}
-use Rattle.transfers.specs.declared.driver.Transfer.{Transfer}
-use Rattle.transfers.specs.declared.driver.Transfer.TheVariants.{Idle, Busy}
 use Rattle.transfers.specs.Reply.{result, begin_reply}
 use Rattle.transfers.specs.Rows.{unless}
 use Rattle.transfers.specs.Memory.{lent_fits}
@@ -37,67 +30,71 @@ use Rattle.record.proofs.Heard.{next_live, breaks, after, hears_is}
 use Rattle.record.proofs.Beginning.{control_refusal, bulk_refusal}
 use Rattle.transfers.specs.Entries.{armed_count}
 use Rattle.record.proofs.Bounded.{UnderWay, none_bound, Shaped, acted}
+use Rattle.transfers.specs.declared.answers.Step.TheVariants.{Done, Waiting}
+use Rattle.transfers.specs.declared.refusal.Refusal.{Refusal}
+use Rattle.transfers.specs.declared.answers.Step.{Step}
+use Rattle.transfers.specs.declared.driver.Run.{Run}
 
 -- ---- a transfer under way
 
-abbrev IsBusy : Transfer → Type 0
-IsBusy Idle = ⊥
-IsBusy (Busy r) = Unit {0}
+abbrev IsBusy : Option Run → Type 0
+IsBusy None = ⊥
+IsBusy (Some r) = Unit {0}
 
 -- ---- none is under way exactly where the driver is idle
 
-abbrev pub Agrees : Live → Transfer → Type 0
-Agrees no_transfer Idle = Unit {0}
-Agrees no_transfer (Busy r) = ⊥
-Agrees (live x buf) Idle = ⊥
-Agrees (live x buf) (Busy r) = Unit {0}
+abbrev pub Agrees : Live → Option Run → Type 0
+Agrees no_transfer None = Unit {0}
+Agrees no_transfer (Some r) = ⊥
+Agrees (live x buf) None = ⊥
+Agrees (live x buf) (Some r) = Unit {0}
 
-busy_agrees : (x : Begin) (buf : List ℕ) (t : Transfer) → IsBusy t → Agrees (live x buf) t
-busy_agrees x buf Idle h = absurd h
-busy_agrees x buf (Busy r) h = tt
+busy_agrees : (x : Begin) (buf : List ℕ) (t : Option Run) → IsBusy t → Agrees (live x buf) t
+busy_agrees x buf None h = absurd h
+busy_agrees x buf (Some r) h = tt
 
-under_busy : (n : ℕ) (t : Transfer) → UnderWay n t → IsBusy t
-under_busy n Idle h = h
-under_busy n (Busy r) h = tt
+under_busy : (n : ℕ) (t : Option Run) → UnderWay n t → IsBusy t
+under_busy n None h = h
+under_busy n (Some r) h = tt
 
-acted_agrees : (a : StepAnswer) (t : Transfer) (am : Armed) (x : Begin) (buf : List ℕ) (y : Sample) (now : List ℕ) → Shaped 0 a t am → Agrees (next_live (note_step a y now) (live x buf)) t
-acted_agrees (Waiting again) t am x buf y now k = busy_agrees x buf t (under_busy (0 + armed_count am) t k)
-acted_agrees (Done j) t am x buf y now k = subst (Agrees no_transfer) (sym k) tt
-acted_agrees (Refused why) t am x buf y now k = rw k.0 (subst (Agrees no_transfer) (sym k.1) tt)
+acted_agrees : (a : Result Step Refusal) (t : Option Run) (am : Armed) (x : Begin) (buf : List ℕ) (y : Sample) (now : List ℕ) → Shaped 0 a t am → Agrees (next_live (note_step a y now) (live x buf)) t
+acted_agrees (Ok (Waiting again)) t am x buf y now k = busy_agrees x buf t (under_busy (0 + armed_count am) t k)
+acted_agrees (Ok (Done j)) t am x buf y now k = subst (Agrees no_transfer) (sym k) tt
+acted_agrees (Err why) t am x buf y now k = rw k.0 (subst (Agrees no_transfer) (sym k.1) tt)
 
-step_agrees : (b : Bool) (l : Live) (t : Transfer) (y : Sample) (buf m log : List ℕ) → Agrees l t → let o = step_of b t y buf m log in Agrees (next_live (note_step o.answer y buf) l) o.next
+step_agrees : (b : Bool) (l : Live) (t : Option Run) (y : Sample) (buf m log : List ℕ) → Agrees l t → let o = step_of b t y buf m log in Agrees (next_live (note_step o.answer y buf) l) o.next
 unfolding step_of
 step_agrees b l t y buf m log h = at (lent_fits m log) l t h
   where
-    at : (p : Bool) (l : Live) (t : Transfer) → Agrees l t → let o = step_lent p b t y buf m in Agrees (next_live (note_step o.answer y buf) l) o.next
+    at : (p : Bool) (l : Live) (t : Option Run) → Agrees l t → let o = step_lent p b t y buf m in Agrees (next_live (note_step o.answer y buf) l) o.next
     at false l t h = h
-    at true l Idle h = h
-    at true no_transfer (Busy r) h = absurd h
-    at true (live x bf) (Busy r) h = by (may_step b r) (eqb (length buf) r.request.length)
+    at true l None h = h
+    at true no_transfer (Some r) h = absurd h
+    at true (live x bf) (Some r) h = by (may_step b r) (eqb (length buf) r.request.length)
       where
         by : (p q : Bool) → let o = step_if p q r y buf m in Agrees (next_live (note_step o.answer y buf) (live x bf)) o.next
         by false q = h
         by true false = h
         by true true = let o = acts r.request r.stage y buf m in acted_agrees o.answer o.next o.armed x bf y buf (acted 0 r.request r.stage y buf m (none_bound r.stage))
 
-begun_agrees : (x : Begin) (buf m log : List ℕ) (l : Live) (t : Transfer) (why : OptionRefusal) (o : Beginning) → o.answer ≡ accepted → IsBusy o.next → Agrees l t
+begun_agrees : (x : Begin) (buf m log : List ℕ) (l : Live) (t : Option Run) (why : Result (Unit {0}) Refusal) (o : Beginning) → o.answer ≡ Ok tt → IsBusy o.next → Agrees l t
     → let q = begin_or why t m o in Agrees (next_live (note (begin x buf m log) q.answer) l) q.next
-begun_agrees x buf m log l t (Some why) o e k h = h
-begun_agrees x buf m log l t None o e k h = subst (λ (a : BeginAnswer). Agrees (next_live (note (begin x buf m log) a) l) o.next) (sym e) (busy_agrees x buf o.next k)
+begun_agrees x buf m log l t (Err why) o e k h = h
+begun_agrees x buf m log l t (Ok tt) o e k h = subst (λ (a : Result (Unit {0}) Refusal). Agrees (next_live (note (begin x buf m log) a) l) o.next) (sym e) (busy_agrees x buf o.next k)
 
-begin_agrees : (l : Live) (t : Transfer) (x : Begin) (buf m log : List ℕ) → Agrees l t
+begin_agrees : (l : Live) (t : Option Run) (x : Begin) (buf m log : List ℕ) → Agrees l t
     → let q = beginning t x buf m log in Agrees (next_live (note (begin x buf m log) q.answer) l) q.next
 unfolding begin_control_of begin_bulk_in_of begin_bulk_out_of
 begin_agrees l t (control_begin a z p s ph) buf m log h = begun_agrees (control_begin a z p s ph) buf m log l t (control_refusal t a p m log) (begins_control a z p s ph (length buf) m) refl tt h
 begin_agrees l t (bulk_begin In a ep p k b) buf m log h = begun_agrees (bulk_begin In a ep p k b) buf m log l t (bulk_refusal t a ep p buf m log) (begins_bulk_in (bulk_request In a ep p b (length buf)) k m) refl tt h
 begin_agrees l t (bulk_begin Out a ep p k b) buf m log h = begun_agrees (bulk_begin Out a ep p k b) buf m log l t (bulk_refusal t a ep p buf m log) (begins_bulk_out (bulk_request Out a ep p b (length buf)) ep k buf m) refl tt h
 
-cancel_agrees : (l : Live) (t : Transfer) → Agrees l t → let o = cancel_of t in Agrees (next_live (note cancel o.answer) l) o.next
+cancel_agrees : (l : Live) (t : Option Run) → Agrees l t → let o = cancel_of t in Agrees (next_live (note cancel o.answer) l) o.next
 unfolding cancel_of
-cancel_agrees l Idle h = h
-cancel_agrees l (Busy r) h = by (either_serves r)
+cancel_agrees l None h = h
+cancel_agrees l (Some r) h = by (either_serves r)
   where
-    by : (b : Bool) → let o = cancel_if b (Busy r) (toggle_in r.request.kind) (toggle_out r.request.kind (stage_parity r.stage)) in Agrees (next_live (note cancel o.answer) l) o.next
+    by : (b : Bool) → let o = cancel_if b (Some r) (toggle_in r.request.kind) (toggle_out r.request.kind (stage_parity r.stage)) in Agrees (next_live (note cancel o.answer) l) o.next
     by false = h
     by true = tt
 
@@ -114,28 +111,28 @@ call_agrees (detect sie log) d l h = h
 
 -- ---- with nothing under way, none ends without a count
 
-pub idle_breaks : (c : Call) (d : Driver) → d.transfer ≡ Idle → breaks (note c (call d c).answer) ≡ false
+pub idle_breaks : (c : Call) (d : Driver) → d.transfer ≡ None → breaks (note c (call d c).answer) ≡ false
 unfolding call step_of cancel_of
 idle_breaks (begin y b m log) d e = by (beginning d.transfer y b m log).answer
   where
-    by : (a : BeginAnswer) → breaks (note (begin y b m log) a) ≡ false
-    by accepted = refl
-    by (refused_begin why) = refl
-idle_breaks (step v y b m log) d e = subst (λ (t : Transfer). breaks (note_step (step_of v t y b m log).answer y b) ≡ false) (sym e) (go (lent_fits m log))
+    by : (a : Result (Unit {0}) Refusal) → breaks (note (begin y b m log) a) ≡ false
+    by (Ok tt) = refl
+    by (Err why) = refl
+idle_breaks (step v y b m log) d e = subst (λ (t : Option Run). breaks (note_step (step_of v t y b m log).answer y b) ≡ false) (sym e) (go (lent_fits m log))
   where
-    go : (u : Bool) → breaks (note_step (step_lent u v Idle y b m).answer y b) ≡ false
+    go : (u : Bool) → breaks (note_step (step_lent u v None y b m).answer y b) ≡ false
     go true = refl
     go false = refl
-idle_breaks cancel d e = subst (λ (t : Transfer). breaks (note cancel (cancel_of t).answer) ≡ false) (sym e) refl
+idle_breaks cancel d e = subst (λ (t : Option Run). breaks (note cancel (cancel_of t).answer) ≡ false) (sym e) refl
 idle_breaks (open_pipe a z e p k log) d q = refl
 idle_breaks (close_pipe k) d e = refl
 idle_breaks (poll_pipe k y m log) d e = refl
 idle_breaks (interrupt ints status log) d e = refl
 idle_breaks (detect sie log) d e = refl
 
-none_idle : (t : Transfer) → Agrees no_transfer t → t ≡ Idle
-none_idle Idle h = refl
-none_idle (Busy r) h = absurd h
+none_idle : (t : Option Run) → Agrees no_transfer t → t ≡ None
+none_idle None h = refl
+none_idle (Some r) h = absurd h
 
 -- The count that a record has where a call breaks a transfer.
 abbrev pub count_if : Bool → ℕ → List Element
@@ -158,7 +155,7 @@ call_failure c d l n h =
 
 -- ---- the table
 
-row : (p i a e s n : Bool) (t : Transfer) (m : List ℕ) (o : Beginning) → o.answer ≡ accepted
+row : (p i a e s n : Bool) (t : Option Run) (m : List ℕ) (o : Beginning) → o.answer ≡ Ok tt
     → begin_reply (begin_or (begin_refusal p i (fields_refusal a e s n)) t m o).answer ≡ unless p 15 (unless i 8 (unless a 12 (unless e 11 (unless s 13 (unless n 14 (result tt))))))
 row false i a e s n t m o q = refl
 row true false a e s n t m o q = refl
@@ -168,13 +165,13 @@ row true true true true false n t m o q = refl
 row true true true true true false t m o q = refl
 row true true true true true true t m o q = ap begin_reply q
 
-idle_free : (l : Live) (t : Transfer) → Agrees l t → is_idle t ≡ is_free l
-idle_free no_transfer Idle h = refl
-idle_free no_transfer (Busy r) h = absurd h
-idle_free (live x buf) Idle h = absurd h
-idle_free (live x buf) (Busy r) h = refl
+idle_free : (l : Live) (t : Option Run) → Agrees l t → is_idle t ≡ is_free l
+idle_free no_transfer None h = refl
+idle_free no_transfer (Some r) h = absurd h
+idle_free (live x buf) None h = absurd h
+idle_free (live x buf) (Some r) h = refl
 
-begin_row : (l : Live) (t : Transfer) (x : Begin) (buf m log : List ℕ) → Agrees l t → begin_reply (beginning t x buf m log).answer ≡ row_of l x buf m log
+begin_row : (l : Live) (t : Option Run) (x : Begin) (buf m log : List ℕ) → Agrees l t → begin_reply (beginning t x buf m log).answer ≡ row_of l x buf m log
 unfolding begin_control_of begin_bulk_in_of begin_bulk_out_of
 begin_row l t (control_begin a z p s ph) buf m log h =
     row (eqb (length m) 4096 && leb 192 (length log)) (is_idle t) (leb a 127) true (leb 1 p && leb p 64) true t m (begins_control a z p s ph (length buf) m) refl

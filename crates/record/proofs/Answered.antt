@@ -1,4 +1,5 @@
 -- What begin and step answer that they armed is the wire record, for every list of calls. Assumes nothing.
+use Rattle.std.specs.Prelude.{Err, None, Ok, Option, Result, Some}
 use mathlib.Core.Path.{◌≡◌, refl, ap, ◌∙◌}
 use mathlib.Core.Bool.{Bool, true, false}
 use mathlib.Core.List.{List, [], ◌∷◌, ◌++◌, map}
@@ -7,8 +8,6 @@ use lib.ListN.{length, take, drop}
 use lib.Dec.{eqb, ltb, leb}
 use Rattle.cutting.specs.declared.transfer_type.TransferType.{TransferType}
 use Rattle.cutting.specs.declared.transfer_type.TransferType.TheVariants.{FixedSize}
-use Rattle.cutting.specs.declared.packetiser.OptionArm.{OptionArm}
-use Rattle.cutting.specs.declared.packetiser.OptionArm.TheVariants.{Some as some_arm, None as no_arm}
 use Rattle.cutting.specs.declared.depacketiser.InDepacketiser.{InDepacketiser}
 use Rattle.cutting.specs.Counters.{out_start}
 use Rattle.transfers.specs.declared.host_controller.UsbError.{UsbError}
@@ -16,17 +15,11 @@ use Rattle.transfers.specs.declared.host_controller.UsbError.TheVariants.{Buffer
 use Rattle.transfers.specs.declared.host_controller.DataPhase.{DataPhase}
 use Rattle.transfers.specs.declared.host_controller.DataPhase.TheVariants.{In as phase_in, Out as phase_out, None as phase_none}
 use Rattle.transfers.specs.declared.wire.Direction.TheVariants.{In, Out}
-use Rattle.transfers.specs.declared.refusal.OptionRefusal.{OptionRefusal}
-use Rattle.transfers.specs.declared.refusal.OptionRefusal.TheVariants.{Some, None}
 use Rattle.transfers.specs.declared.answers.Armed.{Armed}
 use Rattle.transfers.specs.declared.sample.Sample.{Sample}
-use Rattle.transfers.specs.declared.sample.Poll.{Poll}
-use Rattle.transfers.specs.declared.sample.Poll.TheVariants.{Pending, Ready}
 use Rattle.transfers.specs.declared.sample.Found.TheVariants.{Complete, Failed, Neither}
 use Rattle.transfers.specs.declared.driver.DeskRule.{DeskRule}
 use Rattle.transfers.specs.declared.driver.Driver.{Driver}
-use Rattle.transfers.specs.declared.driver.Transfer.{Transfer}
-use Rattle.transfers.specs.declared.driver.Transfer.TheVariants.{Idle, Busy}
 use Rattle.transfers.specs.declared.driver.Request.{Request}
 use Rattle.transfers.specs.declared.driver.Kind.{Kind}
 use Rattle.transfers.specs.declared.driver.Kind.TheVariants.{Control as control_kind, Bulk as bulk_kind}
@@ -66,6 +59,10 @@ use Rattle.record.proofs.Inv.{Shown, shown_by, shown_file, wire_none}
 use Rattle.record.proofs.Starting.{start_in_lem, setup_wire}
 use Rattle.record.proofs.Stepping.{polled_only, quietened, completed, silent_polled, silent_quietened, silent_completed, silent_awaiting}
 use Rattle.record.proofs.Beginning.{control_refusal, bulk_refusal, passed, checked_control, checked_bulk}
+use Rattle.transfers.specs.declared.refusal.Refusal.{Refusal}
+use Rattle.transfers.specs.declared.driver.Run.{Run}
+use Rattle.transfers.specs.declared.sample.Found.{Found}
+use Rattle.cutting.specs.declared.packetiser.Arm.{Arm}
 
 -- ---- the invariant: in an OUT stage ADDR_ENDP shows the transfer's address and endpoint
 
@@ -78,21 +75,21 @@ Shows f x setup_stage = Unit {0}
 Shows f x (in_stage st) = Unit {0}
 Shows f x (out_stage st) = Shown f x.address (endpoint_of x.kind)
 
-abbrev pub Known : File → Transfer → Type 0
-Known f Idle = Unit {0}
-Known f (Busy r) = Good r.request × Shows f r.request r.stage
+abbrev pub Known : File → Option Run → Type 0
+Known f None = Unit {0}
+Known f (Some r) = Good r.request × Shows f r.request r.stage
 
 shows_file : (f g : File) (x : Request) (st : Stage) → g addr_endp ≡ f addr_endp → Shows f x st → Shows g x st
 shows_file f g x setup_stage e i = tt
 shows_file f g x (in_stage st) e i = tt
 shows_file f g x (out_stage st) e i = shown_file f g x.address (endpoint_of x.kind) e i
 
-known_file : (f g : File) (t : Transfer) → g addr_endp ≡ f addr_endp → Known f t → Known g t
-known_file f g Idle e i = tt
-known_file f g (Busy r) e i = (i.0, shows_file f g r.request r.stage e i.1)
+known_file : (f g : File) (t : Option Run) → g addr_endp ≡ f addr_endp → Known f t → Known g t
+known_file f g None e i = tt
+known_file f g (Some r) e i = (i.0, shows_file f g r.request r.stage e i.1)
 
 -- What a call leaves, writes, stores and says that it armed.
-pub record Tells (f : File) (t : Transfer) (ws : List Write) (m : List ℕ) (a : Armed) : Type 0 where
+pub record Tells (f : File) (t : Option Run) (ws : List Write) (m : List ℕ) (a : Armed) : Type 0 where
   pub known : Known (performs f ws) t
   pub is : wire f ws m ≡ entries_armed m a
   pub ranged : armed_in_range a ≡ true
@@ -101,7 +98,7 @@ abbrev Told : File → Outcome → Type 0
 Told f o = Tells f o.next o.writes o.memory o.armed
 
 -- A silent log that arms nothing.
-still : (f : File) (t : Transfer) (ws : List Write) (m : List ℕ) → Silent ws → Known f t → Tells f t ws m nothing_armed
+still : (f : File) (t : Option Run) (ws : List Write) (m : List ℕ) → Silent ws → Known f t → Tells f t ws m nothing_armed
 still f t ws m s i = record { known = known_file f (performs f ws) t (s.addr f) i; is = wire_none f ws m (s.are f); ranged = none_ranged }
 
 keeps : (f : File) (s : Bool) (now : List ℕ) (o : Outcome) → Told f (after quietened o) → Told f (after polled_only (keeping s now (after quiets o)))
@@ -110,21 +107,21 @@ keeps f false now o h = h
 
 -- ---- packets
 
-arms_wire : (f : File) (ws : List Write) (m : List ℕ) (x y : ℕ) (a b : OptionArm) → events f ws ≡ arm_events a ++ arm_events b → Shown (performs f ws) x y
+arms_wire : (f : File) (ws : List Write) (m : List ℕ) (x y : ℕ) (a b : Option Arm) → events f ws ≡ arm_events a ++ arm_events b → Shown (performs f ws) x y
     → wire f ws m ≡ entries_armed m (outs_armed x y a b)
 unfolding wire
 arms_wire f ws m x y a b e s = ap (map (entry_of (performs f ws) m)) e ∙ by a b
   where
-    by : (a b : OptionArm) → map (entry_of (performs f ws) m) (arm_events a ++ arm_events b) ≡ entries_armed m (outs_armed x y a b)
-    by no_arm no_arm = refl
-    by no_arm (some_arm b) = λ i. out (s.addr i) (s.endp i) b.pid b.last (take b.length (drop (slot_place b.slot) m)) ∷ []
-    by (some_arm a) no_arm = λ i. out (s.addr i) (s.endp i) a.pid a.last (take a.length (drop (slot_place a.slot) m)) ∷ []
-    by (some_arm a) (some_arm b) = λ i.
+    by : (a b : Option Arm) → map (entry_of (performs f ws) m) (arm_events a ++ arm_events b) ≡ entries_armed m (outs_armed x y a b)
+    by None None = refl
+    by None (Some b) = λ i. out (s.addr i) (s.endp i) b.pid b.last (take b.length (drop (slot_place b.slot) m)) ∷ []
+    by (Some a) None = λ i. out (s.addr i) (s.endp i) a.pid a.last (take a.length (drop (slot_place a.slot) m)) ∷ []
+    by (Some a) (Some b) = λ i.
         out (s.addr i) (s.endp i) a.pid a.last (take a.length (drop (slot_place a.slot) m))
         ∷ out (s.addr i) (s.endp i) b.pid b.last (take b.length (drop (slot_place b.slot) m)) ∷ []
 
 starts_out : (pre : List Write) (x : Request) (t : TransferType) (status : Bool) (received n : ℕ) (now m : List ℕ) (f : File) → Silent pre → Good x
-    → Tells f (Busy (record { request = x; stage = out_stage (start_out (target_of x) t status received n now m).stage })) (pre ++ (start_out (target_of x) t status received n now m).writes)
+    → Tells f (Some (record { request = x; stage = out_stage (start_out (target_of x) t status received n now m).stage })) (pre ++ (start_out (target_of x) t status received n now m).writes)
     (start_out (target_of x) t status received n now m).memory
     (outs_armed x.address (endpoint_of x.kind) (start_out (target_of x) t status received n now m).first (start_out (target_of x) t status received n now m).second)
 unfolding start_out
@@ -142,14 +139,14 @@ starts_out pre x t status received n now m f sp gd =
     }
 
 starts_in : (pre : List Write) (x : Request) (t : TransferType) (status : Bool) (n : ℕ) (m : List ℕ) (f : File) → Silent pre → Good x
-    → Tells f (Busy (record { request = x; stage = in_stage (start_in (target_of x) t status n).stage })) (pre ++ (start_in (target_of x) t status n).writes) m nothing_armed
+    → Tells f (Some (record { request = x; stage = in_stage (start_in (target_of x) t status n).stage })) (pre ++ (start_in (target_of x) t status n).writes) m nothing_armed
 starts_in pre x t status n m f sp gd = record { known = (gd, tt); is = wire_none f (pre ++ (start_in (target_of x) t status n).writes) m (start_in_lem pre x t status n f sp); ranged = none_ranged }
 
 -- ---- a step
 
 module _ (f : File) (x : Request) (gd : Good x) (now m : List ℕ) where
   tells_failed : (ws : List Write) (e : UsbError) (bf : List ℕ) → Silent (ws ++ []) → Told f (after ws (failed x false e m bf))
-  tells_failed ws e bf s = still f Idle (ws ++ []) m s tt
+  tells_failed ws e bf s = still f None (ws ++ []) m s tt
 
   tells_setup : Told f (after polled_only (setup_step Complete x now m))
   unfolding setup_step
@@ -163,8 +160,8 @@ module _ (f : File) (x : Request) (gd : Good x) (now m : List ℕ) where
       by phase_none v n = starts_in polled_only x FixedSize true 0 m f silent_polled gd
 
   tells_in_done : (k : Kind) (status : Bool) (d : InDepacketiser) (bf : List ℕ) → Told f (after completed (in_done k status x d m bf))
-  tells_in_done (bulk_kind b) status d bf = still f Idle completed m silent_completed tt
-  tells_in_done (control_kind c) true d bf = still f Idle completed m silent_completed tt
+  tells_in_done (bulk_kind b) status d bf = still f None completed m silent_completed tt
+  tells_in_done (control_kind c) true d bf = still f None completed m silent_completed tt
   tells_in_done (control_kind c) false d bf = starts_out completed x FixedSize true d.offset 0 [] m f silent_completed gd
 
   tells_in_complete : (st : InStage) (wd : ℕ) (bf : List ℕ) → Told f (after quietened (in_complete x st wd bf m))
@@ -204,12 +201,12 @@ module _ (f : File) (x : Request) (gd : Good x) (now m : List ℕ) where
   tells_out_complete st wd bf = by x.kind (out_retire_two wd st.retire st.inflight).parity
     where
       control_done : (s : Bool) → Told f (after completed (out_control_done s x st.received m bf))
-      control_done true = still f Idle completed m silent_completed tt
+      control_done true = still f None completed m silent_completed tt
       control_done false = starts_in completed x FixedSize true 0 m f silent_completed gd
 
       by : (k : Kind) (parity : Bool) → Told f (after completed (out_done k x st parity m bf))
       by (control_kind c) parity = control_done st.status
-      by (bulk_kind b) parity = still f Idle completed m silent_completed tt
+      by (bulk_kind b) parity = still f None completed m silent_completed tt
 
   tells_out_move : (st : OutStage) (wd : ℕ) (bf : List ℕ) → Shown f x.address (endpoint_of x.kind) → Told f (after quietened (out_move x st wd bf m))
   unfolding out_move
@@ -227,31 +224,31 @@ module _ (f : File) (x : Request) (gd : Good x) (now m : List ℕ) where
         ranged = outs_ranged x.address (endpoint_of x.kind) g.first g.second gd.addr gd.endp (two_small wd (out_packets x st) r.inflight bf m);
       }
 
-  tells_polls : (st : Stage) (p : Poll) (wd : ℕ) → Shows f x st → Told f (polls p x st wd now m)
+  tells_polls : (st : Stage) (p : Option Found) (wd : ℕ) → Shows f x st → Told f (polls p x st wd now m)
   unfolding setup_step in_step out_step
-  tells_polls st Pending wd i = still f (Busy (record { request = x; stage = st })) (polled ∷ awaits ∷ []) m silent_awaiting (gd, i)
-  tells_polls setup_stage (Ready Complete) wd i = tells_setup
-  tells_polls setup_stage (Ready (Failed e)) wd i = tells_failed polled_only e now silent_polled
-  tells_polls setup_stage (Ready Neither) wd i = still f (Busy (record { request = x; stage = setup_stage })) polled_only m silent_polled (gd, tt)
-  tells_polls (in_stage st) (Ready Complete) wd i = keeps f st.status now (in_complete x st wd (lent st.status now) m) (tells_in_complete st wd (lent st.status now))
-  tells_polls (in_stage st) (Ready (Failed e)) wd i = keeps f st.status now (failed x st.retire e m (lent st.status now)) (tells_failed quietened e (lent st.status now) silent_quietened)
-  tells_polls (in_stage st) (Ready Neither) wd i = keeps f st.status now (in_move x st wd (lent st.status now) m) (tells_in_move st wd (lent st.status now))
-  tells_polls (out_stage st) (Ready Complete) wd i = keeps f st.status now (out_complete x st wd m (lent st.status now)) (tells_out_complete st wd (lent st.status now))
-  tells_polls (out_stage st) (Ready (Failed e)) wd i = keeps f st.status now (failed x st.retire e m (lent st.status now)) (tells_failed quietened e (lent st.status now) silent_quietened)
-  tells_polls (out_stage st) (Ready Neither) wd i = keeps f st.status now (out_move x st wd (lent st.status now) m) (tells_out_move st wd (lent st.status now) i)
+  tells_polls st None wd i = still f (Some (record { request = x; stage = st })) (polled ∷ awaits ∷ []) m silent_awaiting (gd, i)
+  tells_polls setup_stage (Some Complete) wd i = tells_setup
+  tells_polls setup_stage (Some (Failed e)) wd i = tells_failed polled_only e now silent_polled
+  tells_polls setup_stage (Some Neither) wd i = still f (Some (record { request = x; stage = setup_stage })) polled_only m silent_polled (gd, tt)
+  tells_polls (in_stage st) (Some Complete) wd i = keeps f st.status now (in_complete x st wd (lent st.status now) m) (tells_in_complete st wd (lent st.status now))
+  tells_polls (in_stage st) (Some (Failed e)) wd i = keeps f st.status now (failed x st.retire e m (lent st.status now)) (tells_failed quietened e (lent st.status now) silent_quietened)
+  tells_polls (in_stage st) (Some Neither) wd i = keeps f st.status now (in_move x st wd (lent st.status now) m) (tells_in_move st wd (lent st.status now))
+  tells_polls (out_stage st) (Some Complete) wd i = keeps f st.status now (out_complete x st wd m (lent st.status now)) (tells_out_complete st wd (lent st.status now))
+  tells_polls (out_stage st) (Some (Failed e)) wd i = keeps f st.status now (failed x st.retire e m (lent st.status now)) (tells_failed quietened e (lent st.status now) silent_quietened)
+  tells_polls (out_stage st) (Some Neither) wd i = keeps f st.status now (out_move x st wd (lent st.status now) m) (tells_out_move st wd (lent st.status now) i)
 
-tells_step : (f : File) (b : Bool) (t : Transfer) (y : Sample) (now m log : List ℕ) → Known f t → Told f (step_of b t y now m log)
+tells_step : (f : File) (b : Bool) (t : Option Run) (y : Sample) (now m log : List ℕ) → Known f t → Told f (step_of b t y now m log)
 unfolding step_of acts
 tells_step f b t y now m log i = at (lent_fits m log) t i
   where
-    at : (p : Bool) (t : Transfer) → Known f t → Told f (step_lent p b t y now m)
+    at : (p : Bool) (t : Option Run) → Known f t → Told f (step_lent p b t y now m)
     at false t i = still f t [] m silent_nil i
-    at true Idle i = still f Idle [] m silent_nil tt
-    at true (Busy r) i = by (may_step b r) (eqb (length now) r.request.length)
+    at true None i = still f None [] m silent_nil tt
+    at true (Some r) i = by (may_step b r) (eqb (length now) r.request.length)
       where
         by : (p q : Bool) → Told f (step_if p q r y now m)
-        by false q = still f (Busy r) [] m silent_nil i
-        by true false = still f (Busy r) [] m silent_nil i
+        by false q = still f (Some r) [] m silent_nil i
+        by true false = still f (Some r) [] m silent_nil i
         by true true = tells_polls f r.request i.0 now m r.stage (classify y.status y.intr) y.buffers i.1
 
 -- ---- a begin
@@ -259,14 +256,14 @@ tells_step f b t y now m log i = at (lent_fits m log) t i
 abbrev Tells-begin : File → Beginning → Type 0
 Tells-begin f o = Tells f o.next o.writes o.memory o.armed
 
-begins_or : (f : File) (t : Transfer) (m : List ℕ) (r : OptionRefusal) (o : Beginning) → Known f t → (r ≡ None → Tells-begin f o) → Tells-begin f (begin_or r t m o)
-begins_or f t m (Some why) o i h = still f t [] m silent_nil i
-begins_or f t m None o i h = h refl
+begins_or : (f : File) (t : Option Run) (m : List ℕ) (r : Result (Unit {0}) Refusal) (o : Beginning) → Known f t → (r ≡ Ok tt → Tells-begin f o) → Tells-begin f (begin_or r t m o)
+begins_or f t m (Err why) o i h = still f t [] m silent_nil i
+begins_or f t m (Ok tt) o i h = h refl
 
 good_of : (x : Begin) (buf : List ℕ) → Checked x buf → Good (request_of x buf)
 good_of x buf ck = record { addr = ck.addr; endp = endpoint_small x buf ck }
 
-tells_begin : (f : File) (t : Transfer) (x : Begin) (buf m log : List ℕ) → TypedBegin x → Known f t → Tells-begin f (beginning t x buf m log)
+tells_begin : (f : File) (t : Option Run) (x : Begin) (buf m log : List ℕ) → TypedBegin x → Known f t → Tells-begin f (beginning t x buf m log)
 unfolding begin_control_of begin_bulk_in_of begin_bulk_out_of
 tells_begin f t (control_begin a z p s ph) buf m log ty i =
     begins_or f t m (control_refusal t a p m log) (begins_control a z p s ph (length buf) m) i
@@ -289,14 +286,14 @@ tells_begin f t (bulk_begin Out a e p k b) buf m log ty i =
 
 -- ---- every call and every list
 
-tells_cancel : (f : File) (t : Transfer) → Known f t → Tells f (cancel_of t).next [] [] nothing_armed
+tells_cancel : (f : File) (t : Option Run) → Known f t → Tells f (cancel_of t).next [] [] nothing_armed
 unfolding cancel_of
-tells_cancel f Idle i = still f Idle [] [] silent_nil tt
-tells_cancel f (Busy r) i = by (either_serves r)
+tells_cancel f None i = still f None [] [] silent_nil tt
+tells_cancel f (Some r) i = by (either_serves r)
   where
-    by : (b : Bool) → Tells f (cancel_if b (Busy r) (toggle_in r.request.kind) (toggle_out r.request.kind (stage_parity r.stage))).next [] [] nothing_armed
-    by false = still f (Busy r) [] [] silent_nil i
-    by true = still f Idle [] [] silent_nil tt
+    by : (b : Bool) → Tells f (cancel_if b (Some r) (toggle_in r.request.kind) (toggle_out r.request.kind (stage_parity r.stage))).next [] [] nothing_armed
+    by false = still f (Some r) [] [] silent_nil i
+    by true = still f None [] [] silent_nil tt
 
 pub tells_call : (c : Call) (d : Driver) (f : File) → Typed c → Known f d.transfer
     → Tells f (call d c).next.transfer (call d c).writes (call d c).memory (call d c).armed

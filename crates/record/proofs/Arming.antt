@@ -1,4 +1,5 @@
 -- Arming up to two OUT packets: the first of the packets still to come, their entries, and those still to come after them. Assumes nothing.
+use Rattle.std.specs.Prelude.{None, Option, Some}
 use mathlib.Core.Path.{◌≡◌, refl, sym, ap, ap₂, ◌∙◌, subst}
 use mathlib.Core.Bool.{Bool, true, false, not, cond, true≢false}
 use mathlib.Core.List.{List, [], ◌∷◌, ◌++◌, map}
@@ -9,12 +10,8 @@ use lib.Seq.{sets, length-take-le}
 use lib.Dec.{ltb}
 use Rattle.pool.proofs.Cases.{by_cases}
 use Rattle.cutting.specs.declared.packetiser.Arm.{Arm}
-use Rattle.cutting.specs.declared.packetiser.OptionArm.{OptionArm}
-use Rattle.cutting.specs.declared.packetiser.OptionArm.TheVariants.{Some, None}
-use Rattle.cutting.specs.declared.packetiser.Next.{Next}
-use Rattle.cutting.specs.declared.packetiser.Next.TheVariants.{Packet as sends, End}
 use Rattle.cutting.specs.declared.packetiser.OutCounters.{OutCounters}
-use Rattle.cutting.specs.declared.packetiser.OutNext.{OutNext}
+use Rattle.cutting.specs.declared.packetiser.Next.{Next}
 use Rattle.cutting.specs.Cut.{Packet, packet}
 use Rattle.cutting.specs.Counters.{next_of, pid_of, out_gives, out_next}
 use Rattle.cutting.specs.Left.{OutLeft, stop, go, Ends}
@@ -66,27 +63,27 @@ no_arm : {A : Type 0} (a : Arm) → None ≡ Some a → A
 no_arm a e = absurd (let z : ◌≡◌ {A = ℕ} 0 1 = cc in omega arith)
 
 -- Packet size and first PID stay; the slot changes with each packet; with no packet all stays.
-record After (c : OutCounters) (v : OutNext) : Type 0 where
+record After (c : OutCounters) (v : Next OutCounters) : Type 0 where
   size : v.rest.size ≡ c.size
   pid : v.rest.pid ≡ c.pid
   none : v.arm ≡ None → v.rest ≡ c
   some : (a : Arm) → v.arm ≡ Some a → v.rest.slot ≡ not c.slot
 
-gives : (x : Next) (c : OutCounters) → After c (out_gives x c)
-gives End c = record { size = refl; pid = refl; none = λ e. refl; some = λ a e. no_arm a e }
-gives (sends n last) c =
+gives : (x : Option (ℕ × Bool)) (c : OutCounters) → After c (out_gives x c)
+gives None c = record { size = refl; pid = refl; none = λ e. refl; some = λ a e. no_arm a e }
+gives (Some (n, last)) c =
     record { size = refl; pid = refl; none = λ e. no_arm (record { slot = c.slot; pid = pid_of c.pid c.slot; last = last; length = n }) (sym e); some = λ a e. refl }
 
 next_after : (c : OutCounters) → After c (out_next c)
 unfolding out_next
-next_after c = gives (cond (ltb (0xFFFF - c.offset) c.remain) End (next_of c.remain c.size c.zlp)) c
+next_after c = gives (cond (ltb (0xFFFF - c.offset) c.remain) None (next_of c.remain c.size c.zlp)) c
 
 -- The same packet size and first PID.
 pub record Alike (c d : OutCounters) : Type 0 where
   pub size : d.size ≡ c.size
   pub pid : d.pid ≡ c.pid
 
-armed_alike : (a : OptionArm) (c d : OutCounters) (k off : ℕ) (buf m : List ℕ) → Alike c d → Alike c (out_armed a d k off buf m).packets
+armed_alike : (a : Option Arm) (c d : OutCounters) (k off : ℕ) (buf m : List ℕ) → Alike c d → Alike c (out_armed a d k off buf m).packets
 armed_alike None c d k off buf m h = h
 armed_alike (Some a) c d k off buf m h = h
 
@@ -112,11 +109,11 @@ one_none : (w : ℕ) (c : OutCounters) (k : ℕ) (u v m : List ℕ) → (out_arm
 unfolding out_arm
 one_none w c k u v m = by (may_arm w k c.slot) (out_next c).arm
   where
-    said : (a : OptionArm) → (out_armed a (out_next c).rest k c.offset u m).arm ≡ None → out_armed a (out_next c).rest k c.offset u m ≡ out_armed a (out_next c).rest k c.offset v m
+    said : (a : Option Arm) → (out_armed a (out_next c).rest k c.offset u m).arm ≡ None → out_armed a (out_next c).rest k c.offset u m ≡ out_armed a (out_next c).rest k c.offset v m
     said None e = refl
     said (Some a) e = no_arm a (sym e)
 
-    by : (b : Bool) (a : OptionArm) → (out_arm_if b c k u m).arm ≡ None → out_arm_if b c k u m ≡ out_arm_if b c k v m
+    by : (b : Bool) (a : Option Arm) → (out_arm_if b c k u m).arm ≡ None → out_arm_if b c k u m ≡ out_arm_if b c k v m
     by false a e = refl
     by true a e = said (out_next c).arm e
 
@@ -175,9 +172,9 @@ module _ (buf : List ℕ) where
       (λ (q : may_arm w k c.slot ≡ true). may q l)
       (λ (q : may_arm w k c.slot ≡ false). skip (ap (λ (b : Bool). out_arm_if b c k buf m) q) (λ (r : may_arm w k c.slot ≡ true). absurd (true≢false (sym r ∙ q))))
     where
-      is : may_arm w k c.slot ≡ true → (a : OptionArm) → (out_next c).arm ≡ a
+      is : may_arm w k c.slot ≡ true → (a : Option Arm) → (out_next c).arm ≡ a
           → out_arm_if (may_arm w k c.slot) c k buf m ≡ out_armed a (out_next c).rest k c.offset buf m
-      is q a e = ap (λ (b : Bool). out_arm_if b c k buf m) q ∙ ap (λ (x : OptionArm). out_armed x (out_next c).rest k c.offset buf m) e
+      is q a e = ap (λ (b : Bool). out_arm_if b c k buf m) q ∙ ap (λ (x : Option Arm). out_armed x (out_next c).rest k c.offset buf m) e
 
       may : {ks : Packets} → may_arm w k c.slot ≡ true → OutLeft buf c ks → One (may_arm w k c.slot) c ks k m (out_arm_if (may_arm w k c.slot) c k buf m)
       may q (stop e) = skip (is q None e ∙ ap (λ (d : OutCounters). out_kept d k m) ((next_after c).none e)) (λ r. refl)

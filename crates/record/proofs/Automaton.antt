@@ -1,5 +1,6 @@
 -- The reader's automaton takes exactly the records of the grammar, refuses where no grammatical end is possible, and counts the items.
 -- Assumes nothing.
+use Rattle.std.specs.Prelude.{None, Option, Some}
 use mathlib.Core.Path.{◌≡◌, refl, sym, ap, ◌∙◌, subst}
 use mathlib.Core.Logic.{◌⊎◌, inl, inr}
 use mathlib.Core.Bool.{Bool, true, false, not, ◌&&◌, ◌||◌, beq, false≢true, or-true}
@@ -14,8 +15,6 @@ use Rattle.record.specs.Grammar.{Four, Entry, setup, out, w_length_in, Bytes, Fo
 use Rattle.record.specs.Scan.{guard, bulk_start, control_start, bulk_next, control_next, feed, feed_all, starts, count_all, Ends, InRange, AllInRange}
 use Rattle.record.specs.declared.scan.Scan.{Scan}
 use Rattle.record.specs.declared.scan.Scan.TheVariants.{Between as between, AfterSetup as after_setup, InBulk as in_bulk, InControl as in_control_of}
-use Rattle.record.specs.declared.scan.OptionScan.{OptionScan}
-use Rattle.record.specs.declared.scan.OptionScan.TheVariants.{Some as some, None as none}
 use Rattle.record.proofs.Both.{and_left, and_right}
 
 -- ---- what may still come in a state
@@ -88,7 +87,7 @@ Met (in_control_of a wl q p t) = (a ≤ 127) × (1 ≤ p) × (p ≤ 64) × (t < 
 none_entry : {A : Type 0} (e : Entry) (r : List Entry) → [] ≡ e ∷ r → A
 none_entry e r q = absurd (let z : ◌≡◌ {A = ℕ} 0 1 = cc in omega arith)
 
-guard_some : (b : Bool) (s s' : Scan) → guard b s ≡ some s' → (b ≡ true) × (s ≡ s')
+guard_some : (b : Bool) (s s' : Scan) → guard b s ≡ Some s' → (b ≡ true) × (s ≡ s')
 guard_some true s s' e = (refl, cc)
 guard_some false s s' e = absurd (let z : ◌≡◌ {A = ℕ} 0 1 = cc in omega arith)
 
@@ -139,7 +138,7 @@ nil_of : (l : List ℕ) → length l ≡ 0 → l ≡ []
 nil_of [] e = refl
 nil_of (x ∷ l) e = absurd (omega arith)
 
-bulk_start_sound : (a e : ℕ) (b last : Bool) (l : List ℕ) (r : List Entry) (s' : Scan) → InRange (out a e b last l) → bulk_start a e b last (length l) ≡ some s' → Lang s' r → PlainReading (out a e b last l ∷ r)
+bulk_start_sound : (a e : ℕ) (b last : Bool) (l : List ℕ) (r : List Entry) (s' : Scan) → InRange (out a e b last l) → bulk_start a e b last (length l) ≡ Some s' → Lang s' r → PlainReading (out a e b last l ∷ r)
 bulk_start_sound a e b true l r s' h q k =
     let g = guard_some (leb 1 e) between s' q in
     one_group_lem a e b l r h.0 (leb-true 1 e g.0) h.1 h.2 h.3 (subst (λ (v : Scan). Lang v r) (sym g.1) k)
@@ -160,7 +159,7 @@ one_fits wl l h hb e = by_cases (eqb (length l) 0)
     pos zero z = absurd (z refl)
     pos (suc n) z = omega arith
 
-control_start_sound : (a : ℕ) (wl : ℕ) (a' : ℕ) (b last : Bool) (l : List ℕ) (r : List Entry) (s' : Scan) → wl ≤ 65535 → InRange (out a' 0 b last l) → control_start a wl a' b last (length l) ≡ some s' → Lang s' r → SetupTail a wl (out a' 0 b last l ∷ r)
+control_start_sound : (a : ℕ) (wl : ℕ) (a' : ℕ) (b last : Bool) (l : List ℕ) (r : List Entry) (s' : Scan) → wl ≤ 65535 → InRange (out a' 0 b last l) → control_start a wl a' b last (length l) ≡ Some s' → Lang s' r → SetupTail a wl (out a' 0 b last l ∷ r)
 control_start_sound a wl a' b true l r s' w h q k =
     let n = length l in
     let t₂ = eqb n 0 || eqb n wl in
@@ -187,7 +186,7 @@ control_start_sound a wl a' b false l r s' w h q k =
       is = (λ i. out (ea i) 0 (eb i) false l ∷ (group a 0 false u.xs u.l ++ u.after)) ∙ ap (λ (s : List Entry). out a' 0 b false l ∷ s) u.is;
     }
 
-bulk_next_sound : (a e : ℕ) (q : Bool) (p t a' e' : ℕ) (b last : Bool) (l : List ℕ) (r : List Entry) (s' : Scan) → InRange (out a' e' b last l) → bulk_next a e q p t a' e' b last (length l) ≡ some s' → Lang s' r → BulkTail a e q p t (out a' e' b last l ∷ r)
+bulk_next_sound : (a e : ℕ) (q : Bool) (p t a' e' : ℕ) (b last : Bool) (l : List ℕ) (r : List Entry) (s' : Scan) → InRange (out a' e' b last l) → bulk_next a e q p t a' e' b last (length l) ≡ Some s' → Lang s' r → BulkTail a e q p t (out a' e' b last l ∷ r)
 bulk_next_sound a e q p t a' e' b true l r s' h g k =
     let n = length l in
     let t₄ = leb n p && leb (t + n) 65535 in
@@ -237,7 +236,7 @@ bulk_next_sound a e q p t a' e' b false l r s' h g k =
       is = (λ i. out (ea i) (ee i) (eb i) false l ∷ (group a e (not q) u.xs u.l ++ u.after)) ∙ ap (λ (s : List Entry). out a' e' b false l ∷ s) u.is;
     }
 
-control_next_sound : (a : ℕ) (wl : ℕ) (q : Bool) (p t a' e' : ℕ) (b last : Bool) (l : List ℕ) (r : List Entry) (s' : Scan) → InRange (out a' e' b last l) → control_next a wl q p t a' e' b last (length l) ≡ some s' → Lang s' r → ControlTail a wl q p t (out a' e' b last l ∷ r)
+control_next_sound : (a : ℕ) (wl : ℕ) (q : Bool) (p t a' e' : ℕ) (b last : Bool) (l : List ℕ) (r : List Entry) (s' : Scan) → InRange (out a' e' b last l) → control_next a wl q p t a' e' b last (length l) ≡ Some s' → Lang s' r → ControlTail a wl q p t (out a' e' b last l ∷ r)
 control_next_sound a wl q p t a' e' b true l r s' h g k =
     let n = length l in
     let t₅ = leb n p && eqb (t + n) wl in
@@ -305,14 +304,14 @@ Small (after_setup a wl) = (wl ≤ 65535)
 Small (in_bulk a e q p t) = Unit {0}
 Small (in_control_of a wl q p t) = Unit {0}
 
-sound : (s s' : Scan) (e : Entry) (r : List Entry) → Small s → InRange e → feed s e ≡ some s' → Lang s' r → Lang s (e ∷ r)
+sound : (s s' : Scan) (e : Entry) (r : List Entry) → Small s → InRange e → feed s e ≡ Some s' → Lang s' r → Lang s (e ∷ r)
 sound between s' (setup a lo hi) r m h q k = setup_part a lo hi r h.0 h.1 h.2 (subst (λ (v : Scan). Lang v r) (sym (let z : after_setup a (w_length_in hi) ≡ s' = cc in z)) k)
 sound between s' (out a e b last l) r m h q k = bulk_start_sound a e b last l r s' h q k
 sound (after_setup a wl) s' (setup a' lo hi') r m h q k = no_sent a wl (setup a' lo hi' ∷ r) (setup_part a' lo hi' r h.0 h.1 h.2 (subst (λ (v : Scan). Lang v r) (sym (let z : after_setup a' (w_length_in hi') ≡ s' = cc in z)) k))
 sound (after_setup a wl) s' (out a' e b last l) r m h q k = by_cases (eqb e 0)
     (λ (z : eqb e 0 ≡ true).
     let u : 0 ≡ e = sym (eqb-true e 0 z) in
-    let g : control_start a wl a' b last (length l) ≡ some s' = rw z at q in
+    let g : control_start a wl a' b last (length l) ≡ Some s' = rw z at q in
     subst (λ (v : ℕ). SetupTail a wl (out a' v b last l ∷ r)) u (control_start_sound a wl a' b last l r s' m (h.0, omega arith, h.2, h.3) g k))
     (λ (z : eqb e 0 ≡ false). no_sent a wl (out a' e b last l ∷ r) (bulk_start_sound a' e b last l r s' h (rw z at q) k))
 sound (in_bulk a e q p t) s' (setup a' lo hi) r m h g k = absurd (let z : ◌≡◌ {A = ℕ} 0 1 = cc in omega arith)
@@ -328,7 +327,7 @@ longer (x ∷ xs) l = let h = longer xs l in let e = length-append x (group_byte
 
 record Step (s : Scan) (e : Entry) (r : List Entry) (n : ℕ) : Type 0 where
   next : Scan
-  fed : feed s e ≡ some next
+  fed : feed s e ≡ Some next
   lang : Lang next r
   counted : starts s e + due next r lang ≡ n
 
@@ -373,7 +372,7 @@ between_parts (control_part a lo hi s ∷ ps) e r h q =
     step_at between (suc (length ps)) (setup a lo hi) e (sent_entries a s ++ parts_entries ps) r q (record { next = after_setup a (w_length_in hi); fed = refl; lang = record { s = s; fits = of_fits hi s h.0.3; after = parts_entries ps; rest = read_of ps h.1; is = refl }; counted = omega arith })
 
 -- What begins a part is taken after a SETUP too.
-later : (a : ℕ) (wl : ℕ) (e : Entry) (s' : Scan) → feed between e ≡ some s' → feed (after_setup a wl) e ≡ some s'
+later : (a : ℕ) (wl : ℕ) (e : Entry) (s' : Scan) → feed between e ≡ Some s' → feed (after_setup a wl) e ≡ Some s'
 later a wl (setup a' lo hi') s' q = q
 later a wl (out a' n b true l) s' q =
     let g = leb-true 1 n (guard_some (leb 1 n) between s' q).0 in
@@ -382,7 +381,7 @@ later a wl (out a' n b false l) s' q =
     let g = leb-true 1 n (and_left (leb 1 n) (leb 1 (length l)) (guard_some (leb 1 n && leb 1 (length l)) (in_bulk a' n (not b) (length l) (length l)) s' q).0) in
     rw (ne_eqb n 0 (λ (z : n ≡ 0). omega arith)) q
 
-later_starts : (a : ℕ) (wl : ℕ) (e : Entry) (s' : Scan) → feed between e ≡ some s' → starts (after_setup a wl) e ≡ starts between e
+later_starts : (a : ℕ) (wl : ℕ) (e : Entry) (s' : Scan) → feed between e ≡ Some s' → starts (after_setup a wl) e ≡ starts between e
 later_starts a wl (setup a' lo hi) s' q = refl
 later_starts a wl (out a' n b true l) s' q =
     let g = leb-true 1 n (guard_some (leb 1 n) between s' q).0 in
@@ -483,8 +482,8 @@ none_sent a wl (one_group xs l) after k q = no_group_of a 0 true xs l after q
 
 -- What may come is taken to its end, and its items are counted.
 record Takes (s : Scan) (r : List Entry) (n : ℕ) : Type 0 where
-  ends : Ends (feed_all (some s) r)
-  count : count_all (some s) r ≡ n
+  ends : Ends (feed_all (Some s) r)
+  count : count_all (Some s) r ≡ n
 
 takes : (r : List Entry) (s : Scan) (k : Lang s r) → Takes s r (due s r k)
 takes [] between k = record { ends = tt; count = sym (no_parts k.parts k.is) }
@@ -502,21 +501,21 @@ small_of (after_setup a wl) m = m.1
 small_of (in_bulk a e q p t) m = tt
 small_of (in_control_of a wl q p t) m = tt
 
-guard_met : (b : Bool) (s s' : Scan) → (b ≡ true → Met s) → guard b s ≡ some s' → Met s'
+guard_met : (b : Bool) (s s' : Scan) → (b ≡ true → Met s) → guard b s ≡ Some s' → Met s'
 guard_met b s s' h q = let g = guard_some b s s' q in subst Met g.1 (h g.0)
 
-bulk_start_met : (a e : ℕ) (b last : Bool) (l : List ℕ) (s' : Scan) → InRange (out a e b last l) → bulk_start a e b last (length l) ≡ some s' → Met s'
+bulk_start_met : (a e : ℕ) (b last : Bool) (l : List ℕ) (s' : Scan) → InRange (out a e b last l) → bulk_start a e b last (length l) ≡ Some s' → Met s'
 bulk_start_met a e b true l s' h q = guard_met (leb 1 e) between s' (λ g. tt) q
 bulk_start_met a e b false l s' h q = guard_met (leb 1 e && leb 1 (length l)) (in_bulk a e (not b) (length l) (length l)) s'
     (λ (g : (leb 1 e && leb 1 (length l)) ≡ true). (h.0, leb-true 1 e (and_left (leb 1 e) (leb 1 (length l)) g), h.1, leb-true 1 (length l) (and_right (leb 1 e) (leb 1 (length l)) g), h.2, (let v = h.2 in omega arith))) q
 
-met_next : (s s' : Scan) (e : Entry) → Met s → InRange e → feed s e ≡ some s' → Met s'
+met_next : (s s' : Scan) (e : Entry) → Met s → InRange e → feed s e ≡ Some s' → Met s'
 met_next between s' (setup a lo hi) m h q = subst Met (let z : after_setup a (w_length_in hi) ≡ s' = cc in z) (h.0, length_small hi h.2)
 met_next between s' (out a e b last l) m h q = bulk_start_met a e b last l s' h q
 met_next (after_setup a wl) s' (setup a' lo hi') m h q = subst Met (let z : after_setup a' (w_length_in hi') ≡ s' = cc in z) (h.0, length_small hi' h.2)
 met_next (after_setup a wl) s' (out a' e b last l) m h q = by_cases (eqb e 0) (λ (z : eqb e 0 ≡ true). start last (rw z at q)) (λ (z : eqb e 0 ≡ false). bulk_start_met a' e b last l s' h (rw z at q))
   where
-    start : (last : Bool) → control_start a wl a' b last (length l) ≡ some s' → Met s'
+    start : (last : Bool) → control_start a wl a' b last (length l) ≡ Some s' → Met s'
     start true g = guard_met (eqb a' a && (b && (eqb (length l) 0 || eqb (length l) wl))) between s' (λ z. tt) g
     start false g =
         let n = length l in
@@ -545,29 +544,29 @@ met_next (in_control_of a wl q p t) s' (out a' e' b false l) m h g =
     (λ (z : (eqb a' a && t₂) ≡ true). (m.0, m.1, m.2, ltb-true (t + n) wl (and_right (eqb n p) (ltb (t + n) wl) (and_right (beq b q) t₄ (and_right (eqb e' 0) t₃ (and_right (eqb a' a) t₂ z)))), m.4)) g
 
 -- A prefix that was taken, and what may come after it.
-back : (pre : List Entry) (s s' : Scan) (post : List Entry) → Met s → AllInRange pre → feed_all (some s) pre ≡ some s' → Lang s' post → Lang s (pre ++ post)
+back : (pre : List Entry) (s s' : Scan) (post : List Entry) → Met s → AllInRange pre → feed_all (Some s) pre ≡ Some s' → Lang s' post → Lang s (pre ++ post)
 back [] s s' post m h q k = subst (λ (v : Scan). Lang v post) (sym (let z : s ≡ s' = cc in z)) k
 back (e ∷ pre) s s' post m h q k = go (feed s e) refl q (λ u mu g. back pre u s' post mu h.1 g k)
   where
-    stuck : (pre : List Entry) → feed_all none pre ≡ some s' → ⊥
+    stuck : (pre : List Entry) → feed_all None pre ≡ Some s' → ⊥
     stuck [] g = let z : ◌≡◌ {A = ℕ} 0 1 = cc in omega arith
     stuck (x ∷ pre) g = let z : ◌≡◌ {A = ℕ} 0 1 = cc in omega arith
 
-    go : (o : OptionScan) → feed s e ≡ o → feed_all o pre ≡ some s' → ((u : Scan) → Met u → feed_all (some u) pre ≡ some s' → Lang u (pre ++ post)) → Lang s (e ∷ (pre ++ post))
-    go none z g ih = absurd (stuck pre g)
-    go (some u) z g ih = sound s u e (pre ++ post) (small_of s m) h.0 z (ih u (met_next s u e m h.0 z) g)
+    go : (o : Option Scan) → feed s e ≡ o → feed_all o pre ≡ Some s' → ((u : Scan) → Met u → feed_all (Some u) pre ≡ Some s' → Lang u (pre ++ post)) → Lang s (e ∷ (pre ++ post))
+    go None z g ih = absurd (stuck pre g)
+    go (Some u) z g ih = sound s u e (pre ++ post) (small_of s m) h.0 z (ih u (met_next s u e m h.0 z) g)
 
-all_met : (pre : List Entry) (s s' : Scan) → Met s → AllInRange pre → feed_all (some s) pre ≡ some s' → Met s'
+all_met : (pre : List Entry) (s s' : Scan) → Met s → AllInRange pre → feed_all (Some s) pre ≡ Some s' → Met s'
 all_met [] s s' m h q = subst Met (let z : s ≡ s' = cc in z) m
 all_met (e ∷ pre) s s' m h q = go (feed s e) refl q (λ u mu g. all_met pre u s' mu h.1 g)
   where
-    stuck : (pre : List Entry) → feed_all none pre ≡ some s' → ⊥
+    stuck : (pre : List Entry) → feed_all None pre ≡ Some s' → ⊥
     stuck [] g = let z : ◌≡◌ {A = ℕ} 0 1 = cc in omega arith
     stuck (x ∷ pre) g = let z : ◌≡◌ {A = ℕ} 0 1 = cc in omega arith
 
-    go : (o : OptionScan) → feed s e ≡ o → feed_all o pre ≡ some s' → ((u : Scan) → Met u → feed_all (some u) pre ≡ some s' → Met s') → Met s'
-    go none z g ih = absurd (stuck pre g)
-    go (some u) z g ih = ih u (met_next s u e m h.0 z) g
+    go : (o : Option Scan) → feed s e ≡ o → feed_all o pre ≡ Some s' → ((u : Scan) → Met u → feed_all (Some u) pre ≡ Some s' → Met s') → Met s'
+    go None z g ih = absurd (stuck pre g)
+    go (Some u) z g ih = ih u (met_next s u e m h.0 z) g
 
 -- From every state that is met the record can be ended.
 record Ending (s : Scan) : Type 0 where
@@ -628,39 +627,39 @@ ending (in_control_of a wl q p t) m =
     let v = m.3 in
     end_control a wl q p t (wl - suc t) m.1 (omega arith)
 
-pub feed_append : (o : OptionScan) (a b : List Entry) → feed_all o (a ++ b) ≡ feed_all (feed_all o a) b
+pub feed_append : (o : Option Scan) (a b : List Entry) → feed_all o (a ++ b) ≡ feed_all (feed_all o a) b
 feed_append o [] b = refl
-feed_append none (e ∷ a) b = stay b
+feed_append None (e ∷ a) b = stay b
   where
-    stay : (b : List Entry) → none ≡ feed_all none b
+    stay : (b : List Entry) → None ≡ feed_all None b
     stay [] = refl
     stay (x ∷ b) = refl
-feed_append (some s) (e ∷ a) b = feed_append (feed s e) a b
+feed_append (Some s) (e ∷ a) b = feed_append (feed s e) a b
 
-none_stays : (b : List Entry) → Ends (feed_all none b) → ⊥
+none_stays : (b : List Entry) → Ends (feed_all None b) → ⊥
 none_stays [] h = h
 none_stays (x ∷ b) h = h
 
-ends_some : (o : OptionScan) → Ends o → (s : Scan) × (o ≡ some s) × Lang s []
-ends_some none h = absurd h
-ends_some (some between) h = (between, refl, read_of [] tt)
-ends_some (some (after_setup a wl)) h = (after_setup a wl, refl, no_sent a wl [] (read_of [] tt))
-ends_some (some (in_bulk a e q p t)) h = absurd h
-ends_some (some (in_control_of a wl q p t)) h = absurd h
+ends_some : (o : Option Scan) → Ends o → (s : Scan) × (o ≡ Some s) × Lang s []
+ends_some None h = absurd h
+ends_some (Some between) h = (between, refl, read_of [] tt)
+ends_some (Some (after_setup a wl)) h = (after_setup a wl, refl, no_sent a wl [] (read_of [] tt))
+ends_some (Some (in_bulk a e q p t)) h = absurd h
+ends_some (Some (in_control_of a wl q p t)) h = absurd h
 
 -- The automaton takes exactly the records of the grammar; an entry that it does not take has no grammatical end after it; every other prefix has one.
 pub record PlainReader : Type 0 where
-  pub takes_all : (r : List Entry) → PlainReading r → Ends (feed_all (some between) r)
-  pub counts : (r : List Entry) (k : PlainReading r) → count_all (some between) r ≡ length k.parts
-  pub takes_only : (r : List Entry) → AllInRange r → Ends (feed_all (some between) r) → PlainReading r
-  pub refuses : (pre post : List Entry) → feed_all (some between) pre ≡ none → PlainReading (pre ++ post) → ⊥
-  pub viable : (pre : List Entry) (s : Scan) → AllInRange pre → feed_all (some between) pre ≡ some s → (post : List Entry) × PlainReading (pre ++ post)
+  pub takes_all : (r : List Entry) → PlainReading r → Ends (feed_all (Some between) r)
+  pub counts : (r : List Entry) (k : PlainReading r) → count_all (Some between) r ≡ length k.parts
+  pub takes_only : (r : List Entry) → AllInRange r → Ends (feed_all (Some between) r) → PlainReading r
+  pub refuses : (pre post : List Entry) → feed_all (Some between) pre ≡ None → PlainReading (pre ++ post) → ⊥
+  pub viable : (pre : List Entry) (s : Scan) → AllInRange pre → feed_all (Some between) pre ≡ Some s → (post : List Entry) × PlainReading (pre ++ post)
 
 pub plain_reader : PlainReader
 plain_reader = record {
   takes_all = λ r k. (takes r between k).ends;
   counts = λ r k. (takes r between k).count;
-  takes_only = λ r h e. let u = ends_some (feed_all (some between) r) e in subst PlainReading (append-nil r) (back r between u.0 [] tt h u.1 u.2);
-  refuses = λ pre post q k. none_stays post (subst (λ (o : OptionScan). Ends (feed_all o post)) q (subst Ends (feed_append (some between) pre post) (takes (pre ++ post) between k).ends));
+  takes_only = λ r h e. let u = ends_some (feed_all (Some between) r) e in subst PlainReading (append-nil r) (back r between u.0 [] tt h u.1 u.2);
+  refuses = λ pre post q k. none_stays post (subst (λ (o : Option Scan). Ends (feed_all o post)) q (subst Ends (feed_append (Some between) pre post) (takes (pre ++ post) between k).ends));
   viable = λ pre s h q. let z = ending s (all_met pre between s tt h q) in (z.post, back pre between s z.post tt h q z.lang);
 }

@@ -1,4 +1,5 @@
 -- A begin keeps the invariant: its transfer's entries become due. Assumes nothing.
+use Rattle.std.specs.Prelude.{Err, None, Ok, Option, Result, Some}
 use mathlib.Core.Path.{◌≡◌, refl, sym, ap, ◌∙◌, subst}
 use mathlib.Core.Bool.{Bool, true, false, true≢false}
 use mathlib.Core.List.{List, [], ◌++◌, append-nil}
@@ -16,11 +17,7 @@ use Rattle.transfers.specs.declared.wire.SetupPacket.{SetupPacket}
 use Rattle.transfers.specs.declared.wire.Direction.{Direction}
 use Rattle.transfers.specs.declared.wire.Direction.TheVariants.{In, Out}
 use Rattle.transfers.specs.declared.refusal.Refusal.{Refusal}
-use Rattle.transfers.specs.declared.refusal.OptionRefusal.{OptionRefusal}
-use Rattle.transfers.specs.declared.refusal.OptionRefusal.TheVariants.{Some, None}
 use Rattle.transfers.specs.declared.driver.Driver.{Driver}
-use Rattle.transfers.specs.declared.driver.Transfer.{Transfer}
-use Rattle.transfers.specs.declared.driver.Transfer.TheVariants.{Idle, Busy}
 use Rattle.transfers.specs.Memory.{lent_fits}
 use Rattle.transfers.specs.State.{target_of, address_good, endpoint_good, size_good}
 use Rattle.transfers.specs.Outcome.{start_in, start_out}
@@ -36,14 +33,15 @@ use Rattle.record.proofs.Cuts.{all_cut}
 use Rattle.record.proofs.Begins.{Checked}
 use Rattle.record.proofs.Inv.{entries_of, due_setup, Inv, Kept, same_due}
 use Rattle.record.proofs.Starting.{start_out_lem, start_in_lem, setup_wire}
+use Rattle.transfers.specs.declared.driver.Run.{Run}
 
 -- ---- the checks
 
 -- The refusal of a begin, if any.
-abbrev pub control_refusal : Transfer → ℕ → ℕ → List ℕ → List ℕ → OptionRefusal
+abbrev pub control_refusal : Option Run → ℕ → ℕ → List ℕ → List ℕ → Result (Unit {0}) Refusal
 control_refusal t a p m log = begin_refusal (lent_fits m log) (is_idle t) (fields_refusal (address_good a) true (size_good p) true)
 
-abbrev pub bulk_refusal : Transfer → ℕ → ℕ → ℕ → List ℕ → List ℕ → List ℕ → OptionRefusal
+abbrev pub bulk_refusal : Option Run → ℕ → ℕ → ℕ → List ℕ → List ℕ → List ℕ → Result (Unit {0}) Refusal
 bulk_refusal t a e p buf m log = begin_refusal (lent_fits m log) (is_idle t) (fields_refusal (address_good a) (endpoint_good e) (size_good p) (leb (length buf) 0xFFFF))
 
 -- Nothing is refused.
@@ -55,10 +53,10 @@ pub record Passed (fits idle a e p n : Bool) : Type 0 where
   pub size : p ≡ true
   pub room : n ≡ true
 
-none_some : {A : Type 0} (why : Refusal) → Some why ≡ None → A
+none_some : {A : Type 0} (why : Refusal) → ◌≡◌ {A = Result (Unit {0}) Refusal} (Err why) (Ok tt) → A
 none_some why q = absurd (let z : ◌≡◌ {A = ℕ} 0 1 = cc in omega arith)
 
-pub passed : (fits idle a e p n : Bool) → begin_refusal fits idle (fields_refusal a e p n) ≡ None → Passed fits idle a e p n
+pub passed : (fits idle a e p n : Bool) → begin_refusal fits idle (fields_refusal a e p n) ≡ Ok tt → Passed fits idle a e p n
 passed true true true true true true q = record { lent = refl; free = refl; address = refl; endpoint = refl; size = refl; room = refl }
 passed false idle a e p n q = none_some _ q
 passed true false a e p n q = none_some _ q
@@ -67,11 +65,11 @@ passed true true true false p n q = none_some _ q
 passed true true true true false n q = none_some _ q
 passed true true true true true false q = none_some _ q
 
-idle_inv : (l : Live) (n : ℕ) (w : Watch) (f : File) (t : Transfer) (rest : List Entry) → is_idle t ≡ true → Inv l n w f t rest → (l ≡ no_transfer) × (rest ≡ [])
-idle_inv no_transfer n w f Idle rest e i = (refl, i)
-idle_inv no_transfer n w f (Busy r) rest e i = absurd i
-idle_inv (live x buf) n w f Idle rest e i = absurd i
-idle_inv (live x buf) n w f (Busy r) rest e i = absurd (true≢false (sym e))
+idle_inv : (l : Live) (n : ℕ) (w : Watch) (f : File) (t : Option Run) (rest : List Entry) → is_idle t ≡ true → Inv l n w f t rest → (l ≡ no_transfer) × (rest ≡ [])
+idle_inv no_transfer n w f None rest e i = (refl, i)
+idle_inv no_transfer n w f (Some r) rest e i = absurd i
+idle_inv (live x buf) n w f None rest e i = absurd i
+idle_inv (live x buf) n w f (Some r) rest e i = absurd (true≢false (sym e))
 
 pub checked_control : (a : ℕ) (z : TransferExtras) (p : ℕ) (s : SetupPacket) (ph : DataPhase) (buf : List ℕ) → address_good a ≡ true → size_good p ≡ true → TypedSetup s
     → Checked (control_begin a z p s ph) buf
@@ -88,14 +86,14 @@ checked_bulk d a e p t b buf qa qe qp qn =
 module _ (d : Driver) (n : ℕ) (w : Watch) (f : File) (buf m log : List ℕ) where
   -- ---- refused
 
-  begin_or_lem : (x : Begin) (l : Live) (t : Transfer) (rest : List Entry) (r : OptionRefusal) (o : Beginning) → Inv l n w f t rest
-      → (r ≡ None → Kept l n w f rest (begin x buf m log) (begins d x buf m log o)) → Kept l n w f rest (begin x buf m log) (begins d x buf m log (begin_or r t m o))
-  begin_or_lem x l t rest (Some why) o i h = record { rest' = rest; inv = i; split = same_due f [] m rest refl; room = λ q r. r }
-  begin_or_lem x l t rest None o i h = h refl
+  begin_or_lem : (x : Begin) (l : Live) (t : Option Run) (rest : List Entry) (r : Result (Unit {0}) Refusal) (o : Beginning) → Inv l n w f t rest
+      → (r ≡ Ok tt → Kept l n w f rest (begin x buf m log) (begins d x buf m log o)) → Kept l n w f rest (begin x buf m log) (begins d x buf m log (begin_or r t m o))
+  begin_or_lem x l t rest (Err why) o i h = record { rest' = rest; inv = i; split = same_due f [] m rest refl; room = λ q r. r }
+  begin_or_lem x l t rest (Ok tt) o i h = h refl
 
   -- ---- accepted: nothing was due
 
-  from_idle : (x : Begin) (l : Live) (t : Transfer) (rest : List Entry) (o : Beginning) → is_idle t ≡ true → Inv l n w f t rest
+  from_idle : (x : Begin) (l : Live) (t : Option Run) (rest : List Entry) (o : Beginning) → is_idle t ≡ true → Inv l n w f t rest
       → Kept no_transfer n w f [] (begin x buf m log) (begins d x buf m log o) → Kept l n w f rest (begin x buf m log) (begins d x buf m log o)
   from_idle x l t rest o e i k =
       let j = idle_inv l n w f t rest e i in
@@ -141,7 +139,7 @@ module _ (d : Driver) (n : ℕ) (w : Watch) (f : File) (buf m log : List ℕ) wh
         room = λ q v. tt;
       }
 
-  pub begin_kept : (x : Begin) (l : Live) (t : Transfer) (rest : List Entry) → TypedBegin x → Inv l n w f t rest
+  pub begin_kept : (x : Begin) (l : Live) (t : Option Run) (rest : List Entry) → TypedBegin x → Inv l n w f t rest
       → Kept l n w f rest (begin x buf m log) (begins d x buf m log (beginning t x buf m log))
   unfolding begin_control_of begin_bulk_in_of begin_bulk_out_of
   begin_kept (control_begin a z p s ph) l t rest ty i =

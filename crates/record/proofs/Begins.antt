@@ -1,11 +1,10 @@
 -- What is known of a begin that the table doesn't refuse. Assumes nothing.
+use Rattle.std.specs.Prelude.{Option, Some}
 use mathlib.Core.List.{List}
 use Prim.Native.Nat.{ℕ, ◌≤◌}
 use native.Mathlib.Omega.{arith}
 use lib.ListN.{length}
 use Rattle.transfers.specs.declared.host_controller.DataPhase.TheVariants.{In as phase_in, Out as phase_out, None as phase_none}
-use Rattle.transfers.specs.declared.driver.Transfer.{Transfer}
-use Rattle.transfers.specs.declared.driver.Transfer.TheVariants.{Busy}
 use Rattle.transfers.specs.declared.driver.Request.{Request}
 use Rattle.transfers.specs.declared.driver.Stage.{Stage}
 use Rattle.transfers.specs.declared.driver.Kind.{Kind}
@@ -14,6 +13,7 @@ use Rattle.transfers.specs.State.{endpoint_of}
 use Rattle.record.specs.Grammar.{Bytes}
 use Rattle.record.specs.Calls.{Begin, control_begin, bulk_begin}
 use Rattle.record.specs.Asked.{TypedSetup}
+use Rattle.transfers.specs.declared.driver.Run.{Run}
 
 -- The fields of a begin that the driver's state keeps.
 abbrev pub address_of : Begin → ℕ
@@ -32,8 +32,8 @@ abbrev pub request_of : Begin → List ℕ → Request
 request_of x buf = record { address = address_of x; size = size_of x; kind = kind_of x; length = length buf }
 
 -- The transfer in a stage.
-abbrev pub busy : Begin → List ℕ → Stage → Transfer
-busy x buf st = Busy (record { request = request_of x buf; stage = st })
+abbrev pub busy : Begin → List ℕ → Stage → Option Run
+busy x buf st = Some (record { request = request_of x buf; stage = st })
 
 -- A control's SETUP has the fields of its type; a bulk begin's endpoint and buffer were checked.
 abbrev pub KindChecked : Begin → List ℕ → Type 0

@@ -1,7 +1,7 @@
 -- Two tests that hold together, and what cannot be.
 -- Assumes nothing.
 use mathlib.Core.Path.{◌≡◌, refl}
-use mathlib.Core.Bool.{Bool, true, false, ◌&&◌, beq}
+use mathlib.Core.Bool.{Bool, true, false, ◌&&◌}
 use Prim.Native.Nat.{ℕ}
 use native.Mathlib.Omega.{arith}
 
@@ -12,11 +12,6 @@ and_left false b h = h
 pub and_right : (a b : Bool) → (a && b) ≡ true → b ≡ true
 and_right true b h = h
 and_right false b h = absurd (let z : ◌≡◌ {A = ℕ} 0 1 = cc in omega arith)
-
--- Equal to true is to be true.
-pub same_true : (b : Bool) → b ≡ beq true b
-same_true true = refl
-same_true false = refl
 
 -- Anything from 0 being 1.
 pub absurd-eq {ℓ} : {A : Type ℓ} → ◌≡◌ {A = ℕ} 0 1 → A

@@ -1,4 +1,5 @@
 -- A transfer arms at most 65,536 entries, whatever registers and samples show: what begins leave, and steps that act. Assumes nothing.
+use Rattle.std.specs.Prelude.{Err, None, Ok, Option, Result, Some}
 use mathlib.Core.Path.{◌≡◌, refl, sym, subst}
 use mathlib.Core.Bool.{Bool, true, false, not, cond}
 use mathlib.Core.List.{List, []}
@@ -9,10 +10,6 @@ use lib.Dec.{eqb, ltb}
 use borrow.Author.Tests.{ltb-false, eqb-true, eqb-false}
 use Rattle.cutting.specs.declared.transfer_type.TransferType.{TransferType}
 use Rattle.cutting.specs.declared.transfer_type.TransferType.TheVariants.{FixedSize}
-use Rattle.cutting.specs.declared.packetiser.OptionArm.{OptionArm}
-use Rattle.cutting.specs.declared.packetiser.OptionArm.TheVariants.{Some as some_arm, None as no_arm}
-use Rattle.cutting.specs.declared.packetiser.Next.{Next}
-use Rattle.cutting.specs.declared.packetiser.Next.TheVariants.{Packet as sends, End}
 use Rattle.cutting.specs.declared.packetiser.OutCounters.{OutCounters}
 use Rattle.cutting.specs.declared.depacketiser.InDepacketiser.{InDepacketiser}
 use Rattle.cutting.specs.Counters.{zlp_of, next_of, out_gives, out_next, out_start}
@@ -21,15 +18,9 @@ use Rattle.transfers.specs.declared.host_controller.DataPhase.TheVariants.{In as
 use Rattle.transfers.specs.declared.host_controller.TransferExtras.{TransferExtras}
 use Rattle.transfers.specs.declared.wire.SetupPacket.{SetupPacket}
 use Rattle.transfers.specs.declared.writes.Target.{Target}
-use Rattle.transfers.specs.declared.answers.StepAnswer.{StepAnswer}
-use Rattle.transfers.specs.declared.answers.StepAnswer.TheVariants.{Waiting, Done, Refused}
 use Rattle.transfers.specs.declared.answers.Armed.{Armed}
 use Rattle.transfers.specs.declared.sample.Sample.{Sample}
-use Rattle.transfers.specs.declared.sample.Poll.{Poll}
-use Rattle.transfers.specs.declared.sample.Poll.TheVariants.{Pending, Ready}
 use Rattle.transfers.specs.declared.sample.Found.TheVariants.{Complete, Failed, Neither}
-use Rattle.transfers.specs.declared.driver.Transfer.{Transfer}
-use Rattle.transfers.specs.declared.driver.Transfer.TheVariants.{Idle, Busy}
 use Rattle.transfers.specs.declared.driver.Run.{Run}
 use Rattle.transfers.specs.declared.driver.Request.{Request}
 use Rattle.transfers.specs.declared.driver.Kind.{Kind}
@@ -49,6 +40,11 @@ use Rattle.transfers.specs.Calls.{Beginning, begins_control, begins_bulk_in, beg
 use Rattle.transfers.specs.Entries.{armed_count}
 use Rattle.record.specs.Shown.{ends}
 use Rattle.record.proofs.Stepping.{found_ends}
+use Rattle.transfers.specs.declared.answers.Step.TheVariants.{Done, Waiting}
+use Rattle.transfers.specs.declared.refusal.Refusal.{Refusal}
+use Rattle.transfers.specs.declared.answers.Step.{Step}
+use Rattle.cutting.specs.declared.packetiser.Arm.{Arm}
+use Rattle.transfers.specs.declared.sample.Found.{Found}
 
 -- ---- the bound
 
@@ -73,18 +69,18 @@ StageBound n (in_stage st) = InBound n st.status
 StageBound n (out_stage st) = OutBound n st.remain st.zlp
 
 -- n entries are within the bound of the transfer under way.
-abbrev pub Bounded : ℕ → Transfer → Type 0
-Bounded n Idle = Unit {0}
-Bounded n (Busy r) = StageBound n r.stage
+abbrev pub Bounded : ℕ → Option Run → Type 0
+Bounded n None = Unit {0}
+Bounded n (Some r) = StageBound n r.stage
 
 -- The same, where a transfer is under way.
-abbrev pub UnderWay : ℕ → Transfer → Type 0
-UnderWay n Idle = ⊥
-UnderWay n (Busy r) = StageBound n r.stage
+abbrev pub UnderWay : ℕ → Option Run → Type 0
+UnderWay n None = ⊥
+UnderWay n (Some r) = StageBound n r.stage
 
-pub under_bounded : (n : ℕ) (t : Transfer) → UnderWay n t → Bounded n t
-under_bounded n Idle h = tt
-under_bounded n (Busy r) h = h
+pub under_bounded : (n : ℕ) (t : Option Run) → UnderWay n t → Bounded n t
+under_bounded n None h = tt
+under_bounded n (Some r) h = h
 
 -- With nothing armed every stage is.
 pub none_bound : (st : Stage) → StageBound 0 st
@@ -100,7 +96,7 @@ none_bound (out_stage st) = by st.zlp
     by false = (omega arith, λ r. omega arith)
     by true = (omega arith, λ r. omega arith)
 
-pub bounded_small : (n : ℕ) (r : Run) → Bounded n (Busy r) → n ≤ 65536
+pub bounded_small : (n : ℕ) (r : Run) → Bounded n (Some r) → n ≤ 65536
 bounded_small n r h = by r.stage h
   where
     in_small : (v : Bool) → InBound n v → n ≤ 65536
@@ -115,24 +111,24 @@ bounded_small n r h = by r.stage h
 -- ---- packets
 
 -- A packet is one entry.
-abbrev gave : OptionArm → ℕ
-gave no_arm = 0
-gave (some_arm a) = 1
+abbrev gave : Option Arm → ℕ
+gave None = 0
+gave (Some a) = 1
 
 -- The bound, of the counters.
 abbrev CountersBound : ℕ → OutCounters → Type 0
 CountersBound n c = OutBound n c.remain c.zlp
 
 -- After what `next_packet` answers with r bytes left; v: there are none.
-abbrev After : ℕ → ℕ → Bool → Bool → Next → Type 0
-After n r z v End = OutBound n r z
-After n r z v (sends k last) = OutBound (n + 1) (r - k) (cond v false z)
+abbrev After : ℕ → ℕ → Bool → Bool → Option (ℕ × Bool) → Type 0
+After n r z v None = OutBound n r z
+After n r z v (Some (k, last)) = OutBound (n + 1) (r - k) (cond v false z)
 
 next_bound : (n r p : ℕ) (z : Bool) → r ≤ 65535 → OutBound n r z → After n r z (eqb r 0) (next_of r p z)
 next_bound n r p z s h = go (eqb p 0) (ltb 64 p) (eqb r 0) (ltb r p) (ltb p r) z (eqb-false p 0) (eqb-false r 0) h (h.1 s)
   where
     go : (b0 b1 b2 b3 b4 z : Bool) → (b0 ≡ false → p ≡ 0 → ⊥) → (b2 ≡ false → r ≡ 0 → ⊥) → OutBound n r z → n + r + owed z ≤ 65536
-        → After n r z b2 (cond b0 End (cond b1 End (cond b2 (cond z (sends 0 true) End) (cond b3 (sends r true) (cond b4 (sends p false) (sends p (not z)))))))
+        → After n r z b2 (cond b0 None (cond b1 None (cond b2 (cond z (Some (0, true)) None) (cond b3 (Some (r, true)) (cond b4 (Some (p, false)) (Some (p, not z)))))))
     go true b1 b2 b3 b4 z f g h k = h
     go false true b2 b3 b4 z f g h k = h
     go false false true b3 b4 true f g h k = (omega arith, λ q. omega arith)
@@ -145,22 +141,22 @@ counters_bound : (n : ℕ) (c : OutCounters) → CountersBound n c → CountersB
 unfolding out_next
 counters_bound n c h = by (ltb (0xFFFF - c.offset) c.remain) (ltb-false (0xFFFF - c.offset) c.remain)
   where
-    gives : (x : Next) → After n c.remain c.zlp (eqb c.remain 0) x → CountersBound (n + gave (out_gives x c).arm) (out_gives x c).rest
-    gives End k = subst (λ (i : ℕ). CountersBound i c) (sym (add-zero n)) k
-    gives (sends j last) k = k
+    gives : (x : Option (ℕ × Bool)) → After n c.remain c.zlp (eqb c.remain 0) x → CountersBound (n + gave (out_gives x c).arm) (out_gives x c).rest
+    gives None k = subst (λ (i : ℕ). CountersBound i c) (sym (add-zero n)) k
+    gives (Some (j, last)) k = k
 
     by : (v : Bool) → (v ≡ false → c.remain ≤ 0xFFFF - c.offset)
-        → let x = cond v End (next_of c.remain c.size c.zlp) in CountersBound (n + gave (out_gives x c).arm) (out_gives x c).rest
-    by true s = gives End h
+        → let x = cond v None (next_of c.remain c.size c.zlp) in CountersBound (n + gave (out_gives x c).arm) (out_gives x c).rest
+    by true s = gives None h
     by false s = gives (next_of c.remain c.size c.zlp) (next_bound n c.remain c.size c.zlp (let t = s refl in omega arith) h)
 
 one_bound : (n w : ℕ) (c : OutCounters) (k : ℕ) (buf m : List ℕ) → CountersBound n c → CountersBound (n + gave (out_arm w c k buf m).arm) (out_arm w c k buf m).packets
 unfolding out_arm
 one_bound n w c k buf m h = by (may_arm w k c.slot)
   where
-    armed : (a : OptionArm) (d : OutCounters) → CountersBound (n + gave a) d → let g = out_armed a d k c.offset buf m in CountersBound (n + gave g.arm) g.packets
-    armed no_arm d q = q
-    armed (some_arm a) d q = q
+    armed : (a : Option Arm) (d : OutCounters) → CountersBound (n + gave a) d → let g = out_armed a d k c.offset buf m in CountersBound (n + gave g.arm) g.packets
+    armed None d q = q
+    armed (Some a) d q = q
 
     by : (v : Bool) → let g = out_arm_if v c k buf m in CountersBound (n + gave g.arm) g.packets
     by false = subst (λ (i : ℕ). CountersBound i c) (sym (add-zero n)) h
@@ -175,11 +171,11 @@ two_bound n w c k buf m h x e =
     subst (λ (j : ℕ). CountersBound j i.packets) (sum g.arm i.arm)
     (one_bound (n + gave g.arm) w g.packets g.inflight buf g.memory (one_bound n w c k buf m h))
   where
-    sum : (a b : OptionArm) → n + gave a + gave b ≡ n + armed_count (outs_armed x e a b)
-    sum no_arm no_arm = omega arith
-    sum no_arm (some_arm b) = omega arith
-    sum (some_arm a) no_arm = omega arith
-    sum (some_arm a) (some_arm b) = omega arith
+    sum : (a b : Option Arm) → n + gave a + gave b ≡ n + armed_count (outs_armed x e a b)
+    sum None None = omega arith
+    sum None (Some b) = omega arith
+    sum (Some a) None = omega arith
+    sum (Some a) (Some b) = omega arith
 
 -- An OUT stage begins.
 start_bound : (k : ℕ) (T : Target) (t : TransferType) (status : Bool) (received n : ℕ) (now m : List ℕ) → OutBound k n (zlp_of t T.size n)
@@ -221,10 +217,10 @@ bulk_out_bound x e k buf m =
 -- ---- a step that acts: it waits within the bound, or leaves nothing under way; one that fails arms nothing
 
 -- With n entries armed before it.
-abbrev pub Shaped : ℕ → StepAnswer → Transfer → Armed → Type 0
-Shaped n (Waiting again) t a = UnderWay (n + armed_count a) t
-Shaped n (Done k) t a = t ≡ Idle
-Shaped n (Refused why) t a = (ends why ≡ true) × (t ≡ Idle) × (a ≡ nothing_armed)
+abbrev pub Shaped : ℕ → Result Step Refusal → Option Run → Armed → Type 0
+Shaped n (Ok (Waiting again)) t a = UnderWay (n + armed_count a) t
+Shaped n (Ok (Done k)) t a = t ≡ None
+Shaped n (Err why) t a = (ends why ≡ true) × (t ≡ None) × (a ≡ nothing_armed)
 
 -- The same of an outcome.
 abbrev Acted : ℕ → Outcome → Type 0
@@ -295,14 +291,14 @@ pub acted : (n : ℕ) (x : Request) (st : Stage) (s : Sample) (buf m : List ℕ)
 unfolding acts setup_step in_step out_step out_complete
 acted n x st s buf m = go (classify s.status s.intr) refl st
   where
-    go : (p : Poll) → classify s.status s.intr ≡ p → (st : Stage) → StageBound n st → Acted n (polls p x st s.buffers buf m)
-    go Pending q st h = subst (λ (i : ℕ). StageBound i st) (sym (add-zero n)) h
-    go (Ready Complete) q setup_stage h = let c = control_of x.kind in acted_setup n x m c.phase (ltb x.length c.wLength) c.wLength buf h
-    go (Ready (Failed e)) q setup_stage h = (found_ends s e q, refl, refl)
-    go (Ready Neither) q setup_stage h = omega arith
-    go (Ready Complete) q (in_stage st) h = acted_keeping n st.status buf _ (acted_in_complete n x m st s.buffers (lent st.status buf) h)
-    go (Ready (Failed e)) q (in_stage st) h = acted_keeping n st.status buf _ (found_ends s e q, refl, refl)
-    go (Ready Neither) q (in_stage st) h = acted_keeping n st.status buf _ (acted_in_move n x m st s.buffers (lent st.status buf) h)
-    go (Ready Complete) q (out_stage st) h = acted_keeping n st.status buf _ (acted_out_done n x m x.kind st (out_retire_two s.buffers st.retire st.inflight).parity (lent st.status buf) h.0)
-    go (Ready (Failed e)) q (out_stage st) h = acted_keeping n st.status buf _ (found_ends s e q, refl, refl)
-    go (Ready Neither) q (out_stage st) h = acted_keeping n st.status buf _ (acted_out_move n x m st s.buffers (lent st.status buf) h)
+    go : (p : Option Found) → classify s.status s.intr ≡ p → (st : Stage) → StageBound n st → Acted n (polls p x st s.buffers buf m)
+    go None q st h = subst (λ (i : ℕ). StageBound i st) (sym (add-zero n)) h
+    go (Some Complete) q setup_stage h = let c = control_of x.kind in acted_setup n x m c.phase (ltb x.length c.wLength) c.wLength buf h
+    go (Some (Failed e)) q setup_stage h = (found_ends s e q, refl, refl)
+    go (Some Neither) q setup_stage h = omega arith
+    go (Some Complete) q (in_stage st) h = acted_keeping n st.status buf _ (acted_in_complete n x m st s.buffers (lent st.status buf) h)
+    go (Some (Failed e)) q (in_stage st) h = acted_keeping n st.status buf _ (found_ends s e q, refl, refl)
+    go (Some Neither) q (in_stage st) h = acted_keeping n st.status buf _ (acted_in_move n x m st s.buffers (lent st.status buf) h)
+    go (Some Complete) q (out_stage st) h = acted_keeping n st.status buf _ (acted_out_done n x m x.kind st (out_retire_two s.buffers st.retire st.inflight).parity (lent st.status buf) h.0)
+    go (Some (Failed e)) q (out_stage st) h = acted_keeping n st.status buf _ (found_ends s e q, refl, refl)
+    go (Some Neither) q (out_stage st) h = acted_keeping n st.status buf _ (acted_out_move n x m st s.buffers (lent st.status buf) h)

@@ -32,7 +32,7 @@ use Rattle.record.proofs.Cuts.{cut_at, cut_is, cut_more, cut_last}
 use Rattle.record.proofs.Begins.{Checked}
 use Rattle.record.proofs.Parts.{armed_by_all}
 use Rattle.record.proofs.Forward.{record_of_begun}
-use Rattle.record.proofs.Exists.{Free, Run, run_bulk, run_none, run_in, run_out}
+use Rattle.record.proofs.Exists.{Free, Running, run_bulk, run_none, run_in, run_out}
 
 -- ---- a group is a cutting
 
@@ -90,7 +90,7 @@ zero_words (suc n) = (omega arith, zero_words n)
 pub record Choice (q : Part) : Type 0 where
   pub begun : Begun
   pub entries_are : armed_by begun ≡ part_entries q
-  pub run : (later : List Call) (gs : List Begun) → Free later gs → Run begun gs
+  pub run : (later : List Call) (gs : List Begun) → Free later gs → Running begun gs
 
 module _ (m log : List ℕ) (fits : lent_fits m log ≡ true) (mb : Bytes m) (lw : Words log) where
   choose_bulk : (a e : ℕ) (b : Bool) (xs : List (List ℕ)) (l : List ℕ) → Fits (bulk_part a e b xs l) → Choice (bulk_part a e b xs l)

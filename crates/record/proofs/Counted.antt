@@ -1,4 +1,5 @@
 -- The counts that steps and cancels answer are those of the record, for every list of calls. Assumes nothing.
+use Rattle.std.specs.Prelude.{Err, None, Ok, Option, Result, Some}
 use mathlib.Core.Path.{◌≡◌, refl, sym, ap, ap₂, ◌∙◌, subst}
 use mathlib.Core.Bool.{Bool, true, false, cond}
 use mathlib.Core.List.{List, [], ◌∷◌, ◌++◌, map}
@@ -8,24 +9,10 @@ use native.Mathlib.Omega.{arith}
 use lib.ListN.{length}
 use lib.Dec.{eqb}
 use Rattle.transfers.specs.declared.wire.Direction.TheVariants.{In, Out}
-use Rattle.transfers.specs.declared.refusal.OptionRefusal.{OptionRefusal}
-use Rattle.transfers.specs.declared.refusal.OptionRefusal.TheVariants.{Some, None}
-use Rattle.transfers.specs.declared.answers.BeginAnswer.{BeginAnswer}
-use Rattle.transfers.specs.declared.answers.BeginAnswer.TheVariants.{Begun as accepted, Refused as refused_begin}
-use Rattle.transfers.specs.declared.answers.StepAnswer.{StepAnswer}
-use Rattle.transfers.specs.declared.answers.StepAnswer.TheVariants.{Waiting, Done, Refused}
-use Rattle.transfers.specs.declared.answers.OptionEntries.{OptionEntries}
-use Rattle.transfers.specs.declared.answers.OptionEntries.TheVariants.{Some as some_count, None as no_count}
 use Rattle.transfers.specs.declared.answers.Armed.{Armed}
-use Rattle.transfers.specs.declared.answers.OptionSetup.{OptionSetup}
-use Rattle.transfers.specs.declared.answers.OptionSetup.TheVariants.{Some as some_setup, None as no_setup}
-use Rattle.transfers.specs.declared.answers.OptionOut.{OptionOut}
-use Rattle.transfers.specs.declared.answers.OptionOut.TheVariants.{Some as some_out, None as no_out}
 use Rattle.transfers.specs.declared.sample.Sample.{Sample}
 use Rattle.transfers.specs.declared.driver.DeskRule.{DeskRule}
 use Rattle.transfers.specs.declared.driver.Driver.{Driver}
-use Rattle.transfers.specs.declared.driver.Transfer.{Transfer}
-use Rattle.transfers.specs.declared.driver.Transfer.TheVariants.{Idle, Busy}
 use Rattle.transfers.specs.Memory.{lent_fits}
 use Rattle.transfers.specs.Outcome.{Outcome, toggle_in, toggle_out}
 use Rattle.transfers.specs.Step.{acts}
@@ -48,28 +35,34 @@ use Rattle.record.proofs.Beginning.{control_refusal, bulk_refusal}
 use Rattle.record.proofs.Answered.{Known, tells_call}
 use Rattle.record.proofs.Bounded.{Bounded, under_bounded, bounded_small, control_bound, bulk_in_bound, bulk_out_bound, Shaped, acted}
 use Rattle.record.proofs.Agreed.{Agrees, call_agrees, count_if, call_failure}
+use Rattle.transfers.specs.declared.answers.Step.TheVariants.{Done, Waiting}
+use Rattle.transfers.specs.declared.refusal.Refusal.{Refusal}
+use Rattle.transfers.specs.declared.answers.Step.{Step}
+use Rattle.transfers.specs.declared.answers.ArmedOut.{ArmedOut}
+use Rattle.transfers.specs.declared.driver.Run.{Run}
+use Rattle.transfers.specs.declared.answers.ArmedSetup.{ArmedSetup}
 
 -- ---- the driver's count against the record's
 
 -- While a transfer is under way, the driver's count e is the number n of entries that were started since its begin.
-abbrev Count : Transfer → ℕ → ℕ → Type 0
-Count Idle e n = Unit {0}
-Count (Busy r) e n = (e ≡ n) × Bounded n (Busy r)
+abbrev Count : Option Run → ℕ → ℕ → Type 0
+Count None e n = Unit {0}
+Count (Some r) e n = (e ≡ n) × Bounded n (Some r)
 
 -- The driver's goes round at 2^32, which n doesn't reach.
-count_word : (t : Transfer) (e n : ℕ) → e ≡ word n → Bounded n t → Count t e n
-count_word Idle e n h b = tt
-count_word (Busy r) e n h b = let s = bounded_small n r b in (omega arith, b)
+count_word : (t : Option Run) (e n : ℕ) → e ≡ word n → Bounded n t → Count t e n
+count_word None e n h b = tt
+count_word (Some r) e n h b = let s = bounded_small n r b in (omega arith, b)
 
-count_at : (t : Transfer) (n : ℕ) → Bounded n t → Count t n n
-count_at Idle n b = tt
-count_at (Busy r) n b = (refl, b)
+count_at : (t : Option Run) (n : ℕ) → Bounded n t → Count t n n
+count_at None n b = tt
+count_at (Some r) n b = (refl, b)
 
-count_none : (t : Transfer) (e n : ℕ) → Count t e n → Count t e (n + 0)
+count_none : (t : Option Run) (e n : ℕ) → Count t e n → Count t e (n + 0)
 count_none t e n h = subst (Count t e) (sym (add-zero n)) h
 
 -- What a call's answers say of the count, with j entries started.
-record Right (t : Transfer) (e n' : ℕ) (said : List Element) (told : List Element) : Type 0 where
+record Right (t : Option Run) (e n' : ℕ) (said : List Element) (told : List Element) : Type 0 where
   count : Count t e n'
   says : told ≡ said
   small : CountsTo 65536 said
@@ -80,34 +73,34 @@ StepRight e n y buf o =
     let i = since k n (armed_count o.armed) in
     Right o.next (entries_stepped o.answer e o.armed) i (counted (failed_step o.answer e)) (count_if (breaks k) i)
 
-acted_right : (e n : ℕ) (y : Sample) (buf : List ℕ) (a : StepAnswer) (t : Transfer) (am : Armed) → e ≡ n → n ≤ 65536 → Shaped n a t am
+acted_right : (e n : ℕ) (y : Sample) (buf : List ℕ) (a : Result Step Refusal) (t : Option Run) (am : Armed) → e ≡ n → n ≤ 65536 → Shaped n a t am
     → let k = note_step a y buf in Right t (entries_stepped a e am) (since k n (armed_count am)) (counted (failed_step a e)) (count_if (breaks k) (since k n (armed_count am)))
-acted_right e n y buf (Waiting again) t am h s k = record { count = count_word t (word (e + armed_count am)) (n + armed_count am) (ap (λ (i : ℕ). word (i + armed_count am)) h) (under_bounded (n + armed_count am) t k); says = refl; small = tt }
-acted_right e n y buf (Done j) t am h s k = record { count = subst (λ (u : Transfer). Count u 0 0) (sym k) tt; says = refl; small = tt }
-acted_right e n y buf (Refused why) t am h s k = by (ends why) k.0
+acted_right e n y buf (Ok (Waiting again)) t am h s k = record { count = count_word t (word (e + armed_count am)) (n + armed_count am) (ap (λ (i : ℕ). word (i + armed_count am)) h) (under_bounded (n + armed_count am) t k); says = refl; small = tt }
+acted_right e n y buf (Ok (Done j)) t am h s k = record { count = subst (λ (u : Option Run). Count u 0 0) (sym k) tt; says = refl; small = tt }
+acted_right e n y buf (Err why) t am h s k = by (ends why) k.0
   where
     by : (v : Bool) → v ≡ true
         → let u : Note = cond v broke (stepped false y buf) in
-        Right t (cond v 0 e) (since u n (armed_count am)) (counted (cond v (some_count e) no_count)) (count_if (breaks u) (since u n (armed_count am)))
+        Right t (cond v 0 e) (since u n (armed_count am)) (counted (cond v (Some e) None)) (count_if (breaks u) (since u n (armed_count am)))
     by false q = absurd (let z : ◌≡◌ {A = ℕ} 0 1 = cc in omega arith)
     by true q = record {
-      count = subst (λ (u : Transfer). Count u 0 (n + armed_count am)) (sym k.1) tt;
+      count = subst (λ (u : Option Run). Count u 0 (n + armed_count am)) (sym k.1) tt;
       says = let z : armed_count am ≡ 0 = ap armed_count k.2 in ap (λ (i : ℕ). failed_entry i ∷ []) (let y : n + armed_count am ≡ e = omega arith in y);
       small = (omega arith, tt);
     }
 
-step_right : (e n : ℕ) (b : Bool) (t : Transfer) (y : Sample) (buf m log : List ℕ) → Count t e n → StepRight e n y buf (step_of b t y buf m log)
+step_right : (e n : ℕ) (b : Bool) (t : Option Run) (y : Sample) (buf m log : List ℕ) → Count t e n → StepRight e n y buf (step_of b t y buf m log)
 unfolding step_of
 step_right e n b t y buf m log c = at (lent_fits m log) t c
   where
-    at : (p : Bool) (t : Transfer) → Count t e n → StepRight e n y buf (step_lent p b t y buf m)
+    at : (p : Bool) (t : Option Run) → Count t e n → StepRight e n y buf (step_lent p b t y buf m)
     at false t c = record { count = count_none t e n c; says = refl; small = tt }
-    at true Idle c = record { count = tt; says = refl; small = tt }
-    at true (Busy r) c = by (may_step b r) (eqb (length buf) r.request.length)
+    at true None c = record { count = tt; says = refl; small = tt }
+    at true (Some r) c = by (may_step b r) (eqb (length buf) r.request.length)
       where
         by : (p q : Bool) → StepRight e n y buf (step_if p q r y buf m)
-        by false q = record { count = count_none (Busy r) e n c; says = refl; small = tt }
-        by true false = record { count = count_none (Busy r) e n c; says = refl; small = tt }
+        by false q = record { count = count_none (Some r) e n c; says = refl; small = tt }
+        by true false = record { count = count_none (Some r) e n c; says = refl; small = tt }
         by true true = let o = acts r.request r.stage y buf m in acted_right e n y buf o.answer o.next o.armed c.0 (bounded_small n r c.1) (acted n r.request r.stage y buf m c.1)
 
 -- ---- begins
@@ -115,14 +108,14 @@ step_right e n b t y buf m log c = at (lent_fits m log) t c
 abbrev BeginCount : Begin → List ℕ → List ℕ → List ℕ → ℕ → ℕ → Beginning → Type 0
 BeginCount x buf m log e n o = Count o.next (entries_begun o.answer e o.armed) (since (note (begin x buf m log) o.answer) n (armed_count o.armed))
 
-begun_right : (x : Begin) (buf m log : List ℕ) (e n : ℕ) (t : Transfer) (why : OptionRefusal) (o : Beginning) → o.answer ≡ accepted → Bounded (armed_count o.armed) o.next → Count t e n
+begun_right : (x : Begin) (buf m log : List ℕ) (e n : ℕ) (t : Option Run) (why : Result (Unit {0}) Refusal) (o : Beginning) → o.answer ≡ Ok tt → Bounded (armed_count o.armed) o.next → Count t e n
     → BeginCount x buf m log e n (begin_or why t m o)
-begun_right x buf m log e n t (Some why) o q h c = count_none t e n c
-begun_right x buf m log e n t None o q h c =
-    subst (λ (a : BeginAnswer). Count o.next (entries_begun a e o.armed) (since (note (begin x buf m log) a) n (armed_count o.armed))) (sym q)
+begun_right x buf m log e n t (Err why) o q h c = count_none t e n c
+begun_right x buf m log e n t (Ok tt) o q h c =
+    subst (λ (a : Result (Unit {0}) Refusal). Count o.next (entries_begun a e o.armed) (since (note (begin x buf m log) a) n (armed_count o.armed))) (sym q)
     (count_at o.next (armed_count o.armed) h)
 
-begin_right : (t : Transfer) (x : Begin) (buf m log : List ℕ) (e n : ℕ) → Count t e n → BeginCount x buf m log e n (beginning t x buf m log)
+begin_right : (t : Option Run) (x : Begin) (buf m log : List ℕ) (e n : ℕ) → Count t e n → BeginCount x buf m log e n (beginning t x buf m log)
 unfolding begin_control_of begin_bulk_in_of begin_bulk_out_of
 begin_right t (control_begin a z p s ph) buf m log e n c =
     begun_right (control_begin a z p s ph) buf m log e n t (control_refusal t a p m log) (begins_control a z p s ph (length buf) m) refl (control_bound a z p s ph (length buf) m) c
@@ -133,21 +126,21 @@ begin_right t (bulk_begin Out a ep p k b) buf m log e n c =
     let x = bulk_request Out a ep p b (length buf) in
     begun_right (bulk_begin Out a ep p k b) buf m log e n t (bulk_refusal t a ep p buf m log) (begins_bulk_out x ep k buf m) refl (bulk_out_bound x ep k buf m) c
 
-begin_says : (x : Begin) (buf m log : List ℕ) (a : BeginAnswer) → breaks (note (begin x buf m log) a) ≡ false
-begin_says x buf m log accepted = refl
-begin_says x buf m log (refused_begin why) = refl
+begin_says : (x : Begin) (buf m log : List ℕ) (a : Result (Unit {0}) Refusal) → breaks (note (begin x buf m log) a) ≡ false
+begin_says x buf m log (Ok tt) = refl
+begin_says x buf m log (Err why) = refl
 
 -- ---- cancel
 
-cancel_right : (t : Transfer) (e n : ℕ) → Count t e n
+cancel_right : (t : Option Run) (e n : ℕ) → Count t e n
     → let o = cancel_of t in Right o.next (entries_cancelled o.answer e) (since (note cancel o.answer) n 0) (counted (failed_cancel o.answer e)) (count_if (breaks (note cancel o.answer)) (since (note cancel o.answer) n 0))
 unfolding cancel_of
-cancel_right Idle e n c = record { count = tt; says = refl; small = tt }
-cancel_right (Busy r) e n c = by (either_serves r)
+cancel_right None e n c = record { count = tt; says = refl; small = tt }
+cancel_right (Some r) e n c = by (either_serves r)
   where
-    by : (b : Bool) → let o = cancel_if b (Busy r) (toggle_in r.request.kind) (toggle_out r.request.kind (stage_parity r.stage)) in
+    by : (b : Bool) → let o = cancel_if b (Some r) (toggle_in r.request.kind) (toggle_out r.request.kind (stage_parity r.stage)) in
         Right o.next (entries_cancelled o.answer e) (since (note cancel o.answer) n 0) (counted (failed_cancel o.answer e)) (count_if (breaks (note cancel o.answer)) (since (note cancel o.answer) n 0))
-    by false = record { count = count_none (Busy r) e n c; says = refl; small = tt }
+    by false = record { count = count_none (Some r) e n c; says = refl; small = tt }
     by true = record { count = tt; says = ap (λ (i : ℕ). failed_entry i ∷ []) (add-zero n ∙ sym c.0); small = (let s = bounded_small n r c.1 in let q = c.0 in omega arith, tt) }
 
 -- ---- every call and every list
@@ -155,15 +148,15 @@ cancel_right (Busy r) e n c = by (either_serves r)
 length_armed : (m : List ℕ) (a : Armed) → length (entries_armed m a) ≡ armed_count a
 length_armed m a = by a.setup a.first a.second
   where
-    by : (s : OptionSetup) (x y : OptionOut) → length (setups_armed s ++ (outs_armed m x ++ outs_armed m y)) ≡ setup_count s + out_count x + out_count y
-    by no_setup no_out no_out = refl
-    by no_setup no_out (some_out y) = refl
-    by no_setup (some_out x) no_out = refl
-    by no_setup (some_out x) (some_out y) = refl
-    by (some_setup s) no_out no_out = refl
-    by (some_setup s) no_out (some_out y) = refl
-    by (some_setup s) (some_out x) no_out = refl
-    by (some_setup s) (some_out x) (some_out y) = refl
+    by : (s : Option ArmedSetup) (x y : Option ArmedOut) → length (setups_armed s ++ (outs_armed m x ++ outs_armed m y)) ≡ setup_count s + out_count x + out_count y
+    by None None None = refl
+    by None None (Some y) = refl
+    by None (Some x) None = refl
+    by None (Some x) (Some y) = refl
+    by (Some s) None None = refl
+    by (Some s) None (Some y) = refl
+    by (Some s) (Some x) None = refl
+    by (Some s) (Some x) (Some y) = refl
 
 abbrev CallRight : Driver → Call → ℕ → ℕ → Type 0
 CallRight d c n j =
@@ -214,9 +207,9 @@ entries_small : (es : List Entry) (ms : List Element) → CountsTo 65536 ms → 
 entries_small [] ms h = h
 entries_small (e ∷ es) ms h = entries_small es ms h
 
-counted_small : (x : OptionEntries) (ms : List Element) → CountsTo 65536 (counted x) → CountsTo 65536 ms → CountsTo 65536 (counted x ++ ms)
-counted_small no_count ms s h = h
-counted_small (some_count n) ms s h = (s.0, h)
+counted_small : (x : Option ℕ) (ms : List Element) → CountsTo 65536 (counted x) → CountsTo 65536 ms → CountsTo 65536 (counted x ++ ms)
+counted_small None ms s h = h
+counted_small (Some n) ms s h = (s.0, h)
 
 small_from : (cs : List Call) (d : Driver) (n : ℕ) → Count d.transfer d.entries n → CountsTo 65536 (answered_from (shown_from d cs))
 unfolding answered_from shown_from

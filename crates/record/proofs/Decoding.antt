@@ -14,8 +14,10 @@ use Rattle.record.specs.Segments.{Element, entry, failed_entry}
 use Rattle.record.specs.Bytes.{flag_byte, encode, failed_bytes, encode_element}
 use Rattle.record.specs.Scan.{InRange}
 use Rattle.record.specs.Place.{feed_element, run_after, count_after, ElementInRange}
-use Rattle.record.specs.Reader.{look_setup, fields_fit, look_out, look_failed, look, go_on, turn_look, turn_of}
+use Rattle.record.specs.Reader.{look_setup, fields_fit, look_out, look_failed, look, go_on, turned, turn_look, turn_of}
 use Rattle.record.specs.declared.look.Look.{Look}
+use Rattle.record.specs.declared.refusal.Refusal.{Refusal}
+use Rattle.std.specs.Prelude.{Option, Some, Result, Ok}
 use Rattle.record.specs.declared.look.Look.TheVariants.{Setup, Out, Failed}
 use Rattle.record.specs.declared.reader.Progress.{Progress}
 use Rattle.record.specs.Verdict.{OfVersion}
@@ -23,9 +25,9 @@ use Rattle.record.proofs.Looking.{OutFits}
 use Rattle.record.proofs.Puts.{count_halves, count_halves_lem}
 
 -- What the reader sees of an entry.
-abbrev pub look_of : Entry → Look
-look_of (setup a lo hi) = Setup a (w_length_in hi)
-look_of (out a e b last l) = Out (record { address = a; endpoint = e; pid = b; last = last; length = length l })
+abbrev pub look_of : Entry → Result (Option Look) Refusal
+look_of (setup a lo hi) = Ok (Some (Setup a (w_length_in hi)))
+look_of (out a e b last l) = Ok (Some (Out (record { address = a; endpoint = e; pid = b; last = last; length = length l })))
 
 bit_is : (b : Bool) → eqb (flag_byte b) 1 ≡ b
 bit_is true = refl
@@ -40,14 +42,14 @@ unfolding fields_fit
 fits a e b last n ha he hn = rw (le-leb a 127 ha, le-leb e 15 he, bit_low b, bit_low last, le-leb n 64 hn)
 
 see_setup : (a b0 b1 b2 b3 b4 b5 b6 b7 : ℕ) (post : List ℕ) → a ≤ 127
-    → look (0x53 ∷ a ∷ b0 ∷ b1 ∷ b2 ∷ b3 ∷ b4 ∷ b5 ∷ b6 ∷ b7 ∷ post) ≡ Setup a (b6 + b7 * 256)
+    → look (0x53 ∷ a ∷ b0 ∷ b1 ∷ b2 ∷ b3 ∷ b4 ∷ b5 ∷ b6 ∷ b7 ∷ post) ≡ Ok (Some (Setup a (b6 + b7 * 256)))
 unfolding look look_setup
 see_setup a b0 b1 b2 b3 b4 b5 b6 b7 post h =
     let l : List ℕ = 0x53 ∷ a ∷ b0 ∷ b1 ∷ b2 ∷ b3 ∷ b4 ∷ b5 ∷ b6 ∷ b7 ∷ post in
     rw (ne_eqb (length l) 0 (λ (z : length l ≡ 0). omega arith), le-leb 10 (length l) (omega arith), le-leb a 127 h)
 
 see_out : (a e : ℕ) (b last : Bool) (m post : List ℕ) → a ≤ 127 → e ≤ 15 → length m ≤ 64
-    → look (0x4F ∷ a ∷ e ∷ flag_byte b ∷ flag_byte last ∷ length m ∷ (m ++ post)) ≡ Out (record { address = a; endpoint = e; pid = b; last = last; length = length m })
+    → look (0x4F ∷ a ∷ e ∷ flag_byte b ∷ flag_byte last ∷ length m ∷ (m ++ post)) ≡ Ok (Some (Out (record { address = a; endpoint = e; pid = b; last = last; length = length m })))
 unfolding look look_out
 see_out a e b last m post ha he hm =
     let l : List ℕ = 0x4F ∷ a ∷ e ∷ flag_byte b ∷ flag_byte last ∷ length m ∷ (m ++ post) in
@@ -71,18 +73,18 @@ value_back n =
     ap₂ (λ (x y : ℕ). x + y * 65536) a b ∙ c
 
 -- What the reader sees of an entry of version 2.
-abbrev pub look_element : Element → Look
+abbrev pub look_element : Element → Result (Option Look) Refusal
 look_element (entry e) = look_of e
-look_element (failed_entry m) = Failed m
+look_element (failed_entry m) = Ok (Some (Failed m))
 
-pub see_failed : (m : ℕ) (post : List ℕ) → look (failed_bytes m ++ post) ≡ Failed m
+pub see_failed : (m : ℕ) (post : List ℕ) → look (failed_bytes m ++ post) ≡ Ok (Some (Failed m))
 unfolding look look_failed
 see_failed m post = ap (λ (l : List ℕ). look (l ++ post)) (count_halves_lem m) ∙ halves_seen
   where
-    halves_seen : look (count_halves m ++ post) ≡ Failed m
+    halves_seen : look (count_halves m ++ post) ≡ Ok (Some (Failed m))
     halves_seen =
         let l : List ℕ = count_halves m ++ post in
-        rw (ne_eqb (length l) 0 (λ (z : length l ≡ 0). omega arith), le-leb 5 (length l) (omega arith)) (ap Failed (value_back m))
+        rw (ne_eqb (length l) 0 (λ (z : length l ≡ 0). omega arith), le-leb 5 (length l) (omega arith)) (ap (λ (n : ℕ). Ok (Some (Failed n))) (value_back m))
 
 pub look_element_lem : (m : Element) (post : List ℕ) → ElementInRange m → look (encode_element m ++ post) ≡ look_element m
 look_element_lem (entry e) post h = look_encode e post h
@@ -92,19 +94,19 @@ pub drop_element : (m : Element) (post : List ℕ) → drop (length (encode_elem
 drop_element m post = drop-append_seam (encode_element m) post
 
 turn_look_lem : (two : Bool) (m : Element) (p : Progress) → OfVersion two m
-    → turn_look two (look_element m) p ≡ go_on (feed_element p.scan p.run m) (p.at + length (encode_element m)) (run_after p.scan p.run m) (count_after p.scan p.count m)
+    → turn_look two (look_element m) p ≡ turned (go_on (feed_element p.scan p.run m) (p.at + length (encode_element m)) (run_after p.scan p.run m) (count_after p.scan p.count m))
 turn_look_lem two (entry (setup a (four b0 b1 b2 b3) (four b4 b5 b6 b7))) p v = refl
 turn_look_lem two (entry (out a e b last l)) p v =
     let z : 6 + length l ≡ length (encode (out a e b last l)) = omega arith in
     let m = entry (out a e b last l) in
-    ap (λ (n : ℕ). go_on (feed_element p.scan p.run m) (p.at + n) (run_after p.scan p.run m) (count_after p.scan p.count m)) z
-turn_look_lem two (failed_entry m) p v = ap (λ (b : Bool). turn_look b (Failed m) p) v
+    ap (λ (n : ℕ). turned (go_on (feed_element p.scan p.run m) (p.at + n) (run_after p.scan p.run m) (count_after p.scan p.count m))) z
+turn_look_lem two (failed_entry m) p v = ap (λ (b : Bool). turn_look b (Ok (Some (Failed m))) p) v
 
 -- The turn at an entry's encoding feeds the entry.
 pub turn_element : (s : List ℕ) (two : Bool) (p : Progress) (m : Element) (post : List ℕ) → drop p.at s ≡ encode_element m ++ post → ElementInRange m → OfVersion two m
-    → turn_of s two p ≡ go_on (feed_element p.scan p.run m) (p.at + length (encode_element m)) (run_after p.scan p.run m) (count_after p.scan p.count m)
+    → turn_of s two p ≡ turned (go_on (feed_element p.scan p.run m) (p.at + length (encode_element m)) (run_after p.scan p.run m) (count_after p.scan p.count m))
 unfolding turn_of
-turn_element s two p m post q h v = ap (λ (l : List ℕ). turn_look two (look l) p) q ∙ ap (λ (y : Look). turn_look two y p) (look_element_lem m post h) ∙ turn_look_lem two m p v
+turn_element s two p m post q h v = ap (λ (l : List ℕ). turn_look two (look l) p) q ∙ ap (λ (y : Result (Option Look) Refusal). turn_look two y p) (look_element_lem m post h) ∙ turn_look_lem two m p v
 
 -- ---- back
 

@@ -1,5 +1,6 @@
 -- The encoding of entries one after another, and its length.
 -- Assumes nothing.
+use Rattle.std.specs.Prelude.{None, Option, Some}
 use mathlib.Core.Path.{◌≡◌, refl, ap, sym, ◌∙◌}
 use mathlib.Core.Bool.{Bool, true, false, cond, ◌&&◌}
 use mathlib.Core.List.{List, [], ◌∷◌, ◌++◌, map, append_assoc, append-nil}
@@ -12,18 +13,14 @@ use Rattle.record.specs.Chip.{slot_place}
 use Rattle.record.proofs.Chips.{same_slot}
 use Rattle.transfers.proofs.Stores.{slot_inside}
 use Rattle.transfers.specs.declared.answers.Armed.{Armed}
-use Rattle.transfers.specs.declared.answers.OptionEntries.{OptionEntries}
-use Rattle.transfers.specs.declared.answers.OptionEntries.TheVariants.{Some as some_count, None as no_count}
-use Rattle.transfers.specs.declared.answers.OptionSetup.{OptionSetup}
-use Rattle.transfers.specs.declared.answers.OptionSetup.TheVariants.{Some as some_setup, None as no_setup}
-use Rattle.transfers.specs.declared.answers.OptionOut.{OptionOut}
-use Rattle.transfers.specs.declared.answers.OptionOut.TheVariants.{Some as some_out, None as no_out}
 use Rattle.record.proofs.Both.{and_left, and_right}
 use Rattle.record.specs.Grammar.{Entry}
 use Rattle.record.specs.Segments.{Element, entry}
 use Rattle.record.specs.Bytes.{head_bytes, encode, encode_all, encode_element, encode_elements}
 use Rattle.record.specs.Armed.{setups_armed, outs_armed, entries_armed}
 use Rattle.record.specs.Writer.{setup_in_range, out_in_range, armed_in_range, head_of, appended, count_bytes, told_bytes, setup_size, out_size, armed_size, count_size, head_size}
+use Rattle.transfers.specs.declared.answers.ArmedOut.{ArmedOut}
+use Rattle.transfers.specs.declared.answers.ArmedSetup.{ArmedSetup}
 
 -- Entries written one after another are the encoding of the concatenated list.
 pub encode_append : (a b : List Entry) → encode_all (a ++ b) ≡ encode_all a ++ encode_all b
@@ -57,21 +54,21 @@ element_one m = append-nil (encode_element m)
 pub slot_length : (pm : List ℕ) (slot : Bool) (n : ℕ) → length pm ≡ 4096 → n ≤ 64 → length (take n (drop (slot_place slot) pm)) ≡ n
 slot_length pm slot n e h = simp (length-take, length-drop) (omega (arith, slot_inside slot, same_slot slot))
 
-pub setup_size_lem : (s : OptionSetup) → length (encode_all (setups_armed s)) ≡ setup_size s
+pub setup_size_lem : (s : Option ArmedSetup) → length (encode_all (setups_armed s)) ≡ setup_size s
 unfolding encode_all
-setup_size_lem no_setup = refl
-setup_size_lem (some_setup s) = refl
+setup_size_lem None = refl
+setup_size_lem (Some s) = refl
 
 -- The length of a packet that lies in its range.
-pub out_low : (x : OptionOut) → out_in_range x ≡ true → out_size x ≤ 70
-out_low no_out h = omega arith
-out_low (some_out x) h = omega (arith, leb-true x.arm.length 64 (and_right (leb x.endpoint 15) (leb x.arm.length 64) (and_right (leb x.address 127) (leb x.endpoint 15 && leb x.arm.length 64) h)))
+pub out_low : (x : Option ArmedOut) → out_in_range x ≡ true → out_size x ≤ 70
+out_low None h = omega arith
+out_low (Some x) h = omega (arith, leb-true x.arm.length 64 (and_right (leb x.endpoint 15) (leb x.arm.length 64) (and_right (leb x.address 127) (leb x.endpoint 15 && leb x.arm.length 64) h)))
 
-pub out_size_lem : (pm : List ℕ) (x : OptionOut) → length pm ≡ 4096 → out_in_range x ≡ true → length (encode_all (outs_armed pm x)) ≡ out_size x
+pub out_size_lem : (pm : List ℕ) (x : Option ArmedOut) → length pm ≡ 4096 → out_in_range x ≡ true → length (encode_all (outs_armed pm x)) ≡ out_size x
 unfolding encode_all
-out_size_lem pm no_out e h = refl
-out_size_lem pm (some_out x) e h =
-    let k = out_low (some_out x) h in
+out_size_lem pm None e h = refl
+out_size_lem pm (Some x) e h =
+    let k = out_low (Some x) h in
     let s = slot_length pm x.arm.slot x.arm.length e (omega arith) in
     simp length-append (omega (arith, s))
 
@@ -118,10 +115,10 @@ appended_size a pm used e h =
       out_size_lem pm a.second e g.second,
     )
 
-pub count_size_lem : (x : OptionEntries) → length (count_bytes x) ≡ count_size x
-count_size_lem no_count = refl
-count_size_lem (some_count n) = refl
+pub count_size_lem : (x : Option ℕ) → length (count_bytes x) ≡ count_size x
+count_size_lem None = refl
+count_size_lem (Some n) = refl
 
-pub told_size : (a : Armed) (x : OptionEntries) (pm : List ℕ) (used : ℕ) → length pm ≡ 4096 → armed_in_range a ≡ true → length (told_bytes a x pm used) ≡ head_size used + armed_size a + count_size x
+pub told_size : (a : Armed) (x : Option ℕ) (pm : List ℕ) (used : ℕ) → length pm ≡ 4096 → armed_in_range a ≡ true → length (told_bytes a x pm used) ≡ head_size used + armed_size a + count_size x
 unfolding told_bytes
 told_size a x pm used e h = omega (arith, length-append (appended a pm used) (count_bytes x), appended_size a pm used e h, count_size_lem x)

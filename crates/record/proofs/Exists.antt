@@ -1,4 +1,5 @@
 -- A run for each part of the grammar, in front of any list. What it writes follows from Forward: only its premises and its begin are shown here. Assumes nothing.
+use Rattle.std.specs.Prelude.{Err, None, Ok, Option, Result, Some}
 use mathlib.Core.Path.{◌≡◌, refl, sym, ap, ◌∙◌, subst}
 use mathlib.Core.Bool.{Bool, true, false, not, cond, ◌&&◌, true≢false}
 use mathlib.Core.List.{List, [], ◌∷◌, ◌++◌, map}
@@ -21,18 +22,10 @@ use Rattle.transfers.specs.declared.host_controller.DataPhase.TheVariants.{In as
 use Rattle.transfers.specs.declared.host_controller.TransferExtras.{TransferExtras}
 use Rattle.transfers.specs.declared.wire.SetupPacket.{SetupPacket}
 use Rattle.transfers.specs.declared.wire.Direction.TheVariants.{In, Out}
-use Rattle.transfers.specs.declared.answers.BeginAnswer.{BeginAnswer}
-use Rattle.transfers.specs.declared.answers.BeginAnswer.TheVariants.{Begun as accepted}
-use Rattle.transfers.specs.declared.answers.StepAnswer.{StepAnswer}
-use Rattle.transfers.specs.declared.answers.StepAnswer.TheVariants.{Waiting, Done, Refused}
 use Rattle.transfers.specs.declared.answers.Armed.{Armed}
 use Rattle.transfers.specs.declared.sample.Sample.{Sample}
-use Rattle.transfers.specs.declared.sample.Poll.{Poll}
-use Rattle.transfers.specs.declared.sample.Poll.TheVariants.{Ready}
 use Rattle.transfers.specs.declared.sample.Found.TheVariants.{Complete, Neither}
 use Rattle.transfers.specs.declared.driver.Driver.{Driver}
-use Rattle.transfers.specs.declared.driver.Transfer.{Transfer}
-use Rattle.transfers.specs.declared.driver.Transfer.TheVariants.{Idle}
 use Rattle.transfers.specs.declared.driver.Request.{Request}
 use Rattle.transfers.specs.declared.driver.Stage.{Stage}
 use Rattle.transfers.specs.declared.driver.Stage.TheVariants.{Setup as setup_stage, In as in_stage, Out as out_stage}
@@ -72,6 +65,11 @@ use Rattle.record.proofs.Begins.{address_of, size_of, kind_of, request_of, busy,
 use Rattle.record.proofs.Starting.{counters_back, moved_to}
 use Rattle.record.proofs.Stepping.{polled_only, quietened, completed, silent_polled, silent_quietened, silent_completed}
 use Rattle.record.proofs.Sane.{Fit, acts_when, start_in_fit, start_out_fit, none_available, retire_two, retire_in}
+use Rattle.transfers.specs.declared.answers.Step.TheVariants.{Done, Waiting}
+use Rattle.transfers.specs.declared.refusal.Refusal.{Refusal}
+use Rattle.transfers.specs.declared.answers.Step.{Step}
+use Rattle.transfers.specs.declared.driver.Run.{Run}
+use Rattle.transfers.specs.declared.sample.Found.{Found}
 
 -- ---- the samples of a run: no slot available or full; BUFF_STATUS, or TRANS_COMPLETE
 
@@ -81,11 +79,11 @@ move_sample = record { status = 0; intr = 0x10; buffers = 0 }
 abbrev done_sample : Sample
 done_sample = record { status = 0x0004_0000; intr = 8; buffers = 0 }
 
-moves : classify move_sample.status move_sample.intr ≡ Ready Neither
+moves : classify move_sample.status move_sample.intr ≡ Some Neither
 unfolding classify
 moves = refl
 
-completing : classify done_sample.status done_sample.intr ≡ Ready Complete
+completing : classify done_sample.status done_sample.intr ≡ Some Complete
 unfolding classify
 completing = refl
 
@@ -166,7 +164,7 @@ lent_if x buf (e ∷ es) = lent_own x buf
 
 -- Nothing is under way.
 abbrev pub Rest : Driver → Type 0
-Rest d = d.transfer ≡ Idle
+Rest d = d.transfer ≡ None
 
 -- A list that meets the premises from every driver with nothing under way, whatever was counted, watched and written before; and the transfers that it begins.
 pub record Free (cs : List Call) (gs : List Begun) : Type 0 where
@@ -175,14 +173,14 @@ pub record Free (cs : List Call) (gs : List Begun) : Type 0 where
   pub begun : (d : Driver) → Rest d → begun_from (shown_from d cs) ≡ gs
 
 -- A transfer in front of a list.
-pub record Run (g : Begun) (gs : List Begun) : Type 0 where
+pub record Running (g : Begun) (gs : List Begun) : Type 0 where
   pub calls : List Call
   pub free : Free calls (g ∷ gs)
 
-none_begun : (a : StepAnswer) (y : Sample) (now : List ℕ) → begun_by (note_step a y now) ≡ []
-none_begun (Waiting again) y now = refl
-none_begun (Done k) y now = refl
-none_begun (Refused why) y now = by (ends why)
+none_begun : (a : Result Step Refusal) (y : Sample) (now : List ℕ) → begun_by (note_step a y now) ≡ []
+none_begun (Ok (Waiting again)) y now = refl
+none_begun (Ok (Done k)) y now = refl
+none_begun (Err why) y now = by (ends why)
   where
     by : (v : Bool) → begun_by (cond v broke (stepped false y now)) ≡ []
     by true = refl
@@ -190,7 +188,7 @@ none_begun (Refused why) y now = by (ends why)
 
 module _ (m log : List ℕ) (fits : lent_fits m log ≡ true) (mb : Bytes m) (lw : Words log) (later : List Call) (gs : List Begun) (free : Free later gs) where
   -- The calls of a transfer under way end it with a count, and the list goes on.
-  record Fin (e : Driver) (x : Begin) (buf : List ℕ) (n : ℕ) (w : Watch) (f : File) (t : Transfer) (cs : List Call) : Type 0 where
+  record Fin (e : Driver) (x : Begin) (buf : List ℕ) (n : ℕ) (w : Watch) (f : File) (t : Option Run) (cs : List Call) : Type 0 where
     typed : AllTyped cs
     premises : (k : ℕ) → UnbrokenFrom (live x buf) n w f (with_transfer e t k) cs
     begun : (k : ℕ) → begun_from (shown_from (with_transfer e t k) cs) ≡ gs
@@ -206,7 +204,7 @@ module _ (m log : List ℕ) (fits : lent_fits m log ≡ true) (mb : Bytes m) (lw
     begun : (k : ℕ) → begun_from (shown_from (with_transfer e o.next k) cs) ≡ gs
 
   module _ (e : Driver) (x : Begin) (buf : List ℕ) (n : ℕ) (w : Watch) (f : File) where
-    fin_step : (b : Bool) (t : Transfer) (y : Sample) (cs : List Call) (o : Outcome) → Bytes buf → TypedSample y → step_of b t y buf m log ≡ o → Goes e x buf n w f y o cs
+    fin_step : (b : Bool) (t : Option Run) (y : Sample) (cs : List Call) (o : Outcome) → Bytes buf → TypedSample y → step_of b t y buf m log ≡ o → Goes e x buf n w f y o cs
         → Fin e x buf n w f t (step b y buf m log ∷ cs)
     unfolding UnbrokenFrom begun_from call shown_from
     fin_step b t y cs o bb ty q g = record {
@@ -235,15 +233,15 @@ module _ (m log : List ℕ) (fits : lent_fits m log ≡ true) (mb : Bytes m) (lw
     }
 
     goes_done : (k : ℕ) (t : Bool) (ws : List Write) (bf : List ℕ) → TakenIf (true && sends_next (live x buf) n) (seen w done_sample)
-        → Goes e x buf n w f done_sample (after ws (ended (Done k) t t m bf)) later
+        → Goes e x buf n w f done_sample (after ws (ended (Ok (Done k)) t t m bf)) later
     goes_done k t ws bf h = record {
       typed = free.typed;
       counts = refl;
-      begun = λ j. free.begun (with_transfer e Idle j) refl;
+      begun = λ j. free.begun (with_transfer e None j) refl;
       lends = lent_own x buf;
       unrefused = λ b. tt;
       good = (lent_if x buf (events f (ws ++ [])), subst (λ (v : Bool). TakenIf (v && sends_next (live x buf) n) (seen w done_sample)) (sym (finds_is done_sample ∙ ap is_complete completing)) h);
-      premises = λ j. free.premises 0 not_armed (performs f (ws ++ [])) (with_transfer e Idle j) refl;
+      premises = λ j. free.premises 0 not_armed (performs f (ws ++ [])) (with_transfer e None j) refl;
     }
 
     keeps : (s : Bool) (y : Sample) (o : Outcome) (cs : List Call) → Goes e x buf n w f y (after quietened o) cs
@@ -251,7 +249,7 @@ module _ (m log : List ℕ) (fits : lent_fits m log ≡ true) (mb : Bytes m) (lw
     keeps true y o cs h = record { typed = h.typed; counts = h.counts; good = h.good; lends = h.lends; unrefused = h.unrefused; premises = h.premises; begun = h.begun }
     keeps false y o cs h = h
 
-    fin_stage : (b : Bool) (t : Transfer) (y : Sample) (cs : List Call) (s : Bool) (o : Outcome) → Bytes buf → TypedSample y
+    fin_stage : (b : Bool) (t : Option Run) (y : Sample) (cs : List Call) (s : Bool) (o : Outcome) → Bytes buf → TypedSample y
         → step_of b t y buf m log ≡ after polled_only (keeping s buf (after quiets o))
         → Goes e x buf n w f y (after quietened o) cs → Fin e x buf n w f t (step b y buf m log ∷ cs)
     fin_stage b t y cs s o bb ty q g = fin_step b t y cs (after polled_only (keeping s buf (after quiets o))) bb ty q (keeps s y o cs g)
@@ -261,7 +259,7 @@ module _ (m log : List ℕ) (fits : lent_fits m log ≡ true) (mb : Bytes m) (lw
   module _ (b : Bool) (x : Begin) (buf : List ℕ) (ck : Checked x buf) where
     step_done : (st : Stage) → served b (kind_of x) st ≡ true → Fit (request_of x buf) st
         → step_of b (busy x buf st) done_sample buf m log ≡ after polled_only (stage_step Complete (request_of x buf) st 0 buf m)
-    step_done st sv h = acts_when b x buf st done_sample m log fits ck sv h ∙ ap (λ (p : Poll). polls p (request_of x buf) st 0 buf m) completing
+    step_done st sv h = acts_when b x buf st done_sample m log fits ck sv h ∙ ap (λ (p : Option Found). polls p (request_of x buf) st 0 buf m) completing
 
     in_completes : (st : InStage) → served b (kind_of x) (in_stage st) ≡ true → Fit (request_of x buf) (in_stage st)
         → step_of b (busy x buf (in_stage st)) done_sample buf m log
@@ -296,7 +294,7 @@ module _ (m log : List ℕ) (fits : lent_fits m log ≡ true) (mb : Bytes m) (lw
         → step_of b (busy x buf (out_stage st)) move_sample buf m log
         ≡ after polled_only (keeping st.status buf (after quiets (out_move (request_of x buf) st 0 (lent st.status buf) m)))
     unfolding out_step
-    out_moves st q h = acts_when b x buf (out_stage st) move_sample m log fits ck (sv st q) h ∙ ap (λ (p : Poll). polls p (request_of x buf) (out_stage st) 0 buf m) moves
+    out_moves st q h = acts_when b x buf (out_stage st) move_sample m log fits ck (sv st q) h ∙ ap (λ (p : Option Found). polls p (request_of x buf) (out_stage st) 0 buf m) moves
 
     out_run_lem : (k : ℕ) (w : Watch) (f : File) (st : OutStage) (ks : Packets) → st.status ≡ status → Fit (request_of x buf) (out_stage st)
         → OutLeft (lent st.status buf) (out_packets (request_of x buf) st) ks
@@ -367,8 +365,8 @@ module _ (m log : List ℕ) (fits : lent_fits m log ≡ true) (mb : Bytes m) (lw
 
   -- ---- a begin
 
-  begin_run : (x : Begin) (buf : List ℕ) (cs : List Call) (o : Beginning) → TypedBegin x → Bytes buf → beginning Idle x buf m log ≡ o → o.answer ≡ accepted
-      → ((e : Driver) (f : File) → Fin e x buf 0 (marks not_armed (events f o.writes)) (performs f o.writes) o.next cs) → Run (record { fields = x; buffer = buf }) gs
+  begin_run : (x : Begin) (buf : List ℕ) (cs : List Call) (o : Beginning) → TypedBegin x → Bytes buf → beginning None x buf m log ≡ o → o.answer ≡ Ok tt
+      → ((e : Driver) (f : File) → Fin e x buf 0 (marks not_armed (events f o.writes)) (performs f o.writes) o.next cs) → Running (record { fields = x; buffer = buf }) gs
   unfolding UnbrokenFrom begun_from call shown_from
   begin_run x buf cs o ty bb q a fin =
       let c = begin x buf m log in
@@ -380,22 +378,22 @@ module _ (m log : List ℕ) (fits : lent_fits m log ≡ true) (mb : Bytes m) (lw
               subst (λ (o : Beginning). (breaks (note c o.answer) ≡ false) × CallGood (note c o.answer) no_transfer n w (events f o.writes)
               × (CallLent (note c o.answer) no_transfer × Unrefused c o.answer)
               × UnbrokenFrom (next_live (note c o.answer) no_transfer) (next_count (note c o.answer) n) (next_watch (note c o.answer) w (events f o.writes)) (performs f o.writes) (with_transfer d o.next (entries_begun o.answer d.entries o.armed)) cs)
-              (sym (ap (λ (t : Transfer). beginning t x buf m log) r ∙ q))
-              (subst (λ (v : BeginAnswer). (breaks (note c v) ≡ false) × CallGood (note c v) no_transfer n w (events f o.writes)
+              (sym (ap (λ (t : Option Run). beginning t x buf m log) r ∙ q))
+              (subst (λ (v : Result (Unit {0}) Refusal). (breaks (note c v) ≡ false) × CallGood (note c v) no_transfer n w (events f o.writes)
               × (CallLent (note c v) no_transfer × Unrefused c v)
               × UnbrokenFrom (next_live (note c v) no_transfer) (next_count (note c v) n) (next_watch (note c v) w (events f o.writes)) (performs f o.writes) (with_transfer d o.next (entries_begun v d.entries o.armed)) cs)
               (sym a) (refl, tt, (tt, tt), (fin d f).premises (armed_count o.armed)));
           begun = λ d r.
               subst (λ (o : Beginning). begun_by (note c o.answer) ++ begun_from (shown_from (with_transfer d o.next (entries_begun o.answer d.entries o.armed)) cs) ≡ record { fields = x; buffer = buf } ∷ gs)
-              (sym (ap (λ (t : Transfer). beginning t x buf m log) r ∙ q))
-              (subst (λ (v : BeginAnswer). begun_by (note c v) ++ begun_from (shown_from (with_transfer d o.next (entries_begun v d.entries o.armed)) cs) ≡ record { fields = x; buffer = buf } ∷ gs)
+              (sym (ap (λ (t : Option Run). beginning t x buf m log) r ∙ q))
+              (subst (λ (v : Result (Unit {0}) Refusal). begun_by (note c v) ++ begun_from (shown_from (with_transfer d o.next (entries_begun v d.entries o.armed)) cs) ≡ record { fields = x; buffer = buf } ∷ gs)
               (sym a) (ap (λ (l : List Begun). record { fields = x; buffer = buf } ∷ l) ((fin d (λ k. 0)).begun (armed_count o.armed))));
         };
       }
 
   -- ---- a bulk OUT
 
-  pub run_bulk : (a e p : ℕ) (t : TransferType) (b : Bool) (buf : List ℕ) → Bytes buf → Checked (bulk_begin Out a e p t b) buf → Run (record { fields = bulk_begin Out a e p t b; buffer = buf }) gs
+  pub run_bulk : (a e p : ℕ) (t : TransferType) (b : Bool) (buf : List ℕ) → Bytes buf → Checked (bulk_begin Out a e p t b) buf → Running (record { fields = bulk_begin Out a e p t b; buffer = buf }) gs
   unfolding begin_bulk_out_of served
   run_bulk a e p t b buf bb ck =
       let x = bulk_begin Out a e p t b in
@@ -426,7 +424,7 @@ module _ (m log : List ℕ) (fits : lent_fits m log ≡ true) (mb : Bytes m) (lw
 
     from_setup : (ph : DataPhase) (cs : List Call) → Checked (asks ph) buf
         → ((e : Driver) (w : Watch) (f : File) → Fin e (asks ph) buf 0 w f (busy (asks ph) buf setup_stage) cs)
-        → Run (record { fields = asks ph; buffer = buf }) gs
+        → Running (record { fields = asks ph; buffer = buf }) gs
     unfolding begin_control_of
     from_setup ph cs ck fin =
         let o = begins_control a z p s ph (length buf) m in
@@ -468,7 +466,7 @@ module _ (m log : List ℕ) (fits : lent_fits m log ≡ true) (mb : Bytes m) (lw
         → step_of b (busy (asks ph) buf (out_stage st)) done_sample buf m log ≡ after polled_only (keeping v buf (after quiets (out_done_as ph st v)))
     out_done_lem b ph st v ck q sv h = out_completes b (asks ph) buf ck st sv h ∙ ap (λ (v : Bool). after polled_only (keeping v buf (after quiets (out_done_as ph st v)))) q
 
-    pub run_none : Checked (asks phase_none) buf → Run (record { fields = asks phase_none; buffer = buf }) gs
+    pub run_none : Checked (asks phase_none) buf → Running (record { fields = asks phase_none; buffer = buf }) gs
     unfolding served start_in
     run_none ck =
         let x = asks phase_none in
@@ -481,7 +479,7 @@ module _ (m log : List ℕ) (fits : lent_fits m log ≡ true) (mb : Bytes m) (lw
         (goes_wait e x buf 0 w f done_sample (in_stage i.stage) true nothing_armed ws m buf tail true (finds_is done_sample ∙ ap is_complete completing) tt
         (in_last e true phase_none 1 (marks not_armed (events f ws)) (performs f ws) i.stage ck refl refl (start_in_fit X FixedSize true (omega arith)) tt)))
 
-    pub run_in : Checked (asks phase_in) buf → s.wLength ≤ length buf → Run (record { fields = asks phase_in; buffer = buf }) gs
+    pub run_in : Checked (asks phase_in) buf → s.wLength ≤ length buf → Running (record { fields = asks phase_in; buffer = buf }) gs
     unfolding served start_in
     run_in ck room =
         let x = asks phase_in in
@@ -509,7 +507,7 @@ module _ (m log : List ℕ) (fits : lent_fits m log ≡ true) (mb : Bytes m) (lw
         completed FixedSize 0 [] ks f₁ silent_completed refl (out_cut_lem FixedSize p true ck.low ck.high [] 0 (omega arith) (omega arith)) (cut_marked FixedSize p true [])
         (cut_some FixedSize p true [] ck.low) (omega arith))))))
 
-    pub run_out : Checked (asks phase_out) buf → s.wLength ≤ length buf → Run (record { fields = asks phase_out; buffer = buf }) gs
+    pub run_out : Checked (asks phase_out) buf → s.wLength ≤ length buf → Running (record { fields = asks phase_out; buffer = buf }) gs
     unfolding served start_in
     run_out ck room =
         let x = asks phase_out in

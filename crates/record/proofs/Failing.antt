@@ -1,5 +1,6 @@
 -- Runs with failures: the record has a reading, the transfers that ended with a count, each count's entries are the first of their own transfer's, and every
 -- transfer begun has one fate. Assumes nothing.
+use Rattle.std.specs.Prelude.{Err, None, Ok, Option, Result, Some}
 use mathlib.Core.Path.{◌≡◌, refl, sym, ap, ap₂, ◌∙◌, subst}
 use mathlib.Core.Bool.{Bool, true, false, cond, true≢false}
 use mathlib.Core.List.{List, [], ◌∷◌, ◌++◌, map, append-nil, append_assoc, map-append, tail-eq_of_cons-eq}
@@ -8,18 +9,9 @@ use native.Mathlib.Omega.{arith}
 use lib.ListN.{length, length-append}
 use Rattle.transfers.specs.declared.host_controller.DataPhase.TheVariants.{In as phase_in, Out as phase_out, None as phase_none}
 use Rattle.transfers.specs.declared.wire.Direction.TheVariants.{In, Out}
-use Rattle.transfers.specs.declared.refusal.OptionRefusal.{OptionRefusal}
-use Rattle.transfers.specs.declared.answers.BeginAnswer.{BeginAnswer}
-use Rattle.transfers.specs.declared.answers.BeginAnswer.TheVariants.{Begun as accepted, Refused as refused_begin}
-use Rattle.transfers.specs.declared.answers.StepAnswer.{StepAnswer}
-use Rattle.transfers.specs.declared.answers.StepAnswer.TheVariants.{Waiting, Done, Refused}
 use Rattle.transfers.specs.declared.sample.Sample.{Sample}
-use Rattle.transfers.specs.declared.answers.CancelAnswer.{CancelAnswer}
-use Rattle.transfers.specs.declared.answers.CancelAnswer.TheVariants.{Cancelled, Refused as refused_cancel}
 use Rattle.transfers.specs.declared.driver.DeskRule.{DeskRule}
 use Rattle.transfers.specs.declared.driver.Driver.{Driver}
-use Rattle.transfers.specs.declared.driver.Transfer.{Transfer}
-use Rattle.transfers.specs.declared.driver.Transfer.TheVariants.{Idle, Busy}
 use Rattle.transfers.specs.declared.driver.Run.{Run}
 use Rattle.transfers.specs.declared.driver.Stage.{Stage}
 use Rattle.transfers.specs.declared.driver.Stage.TheVariants.{Setup as setup_stage, In as in_stage, Out as out_stage}
@@ -46,6 +38,9 @@ use Rattle.record.proofs.Placing.{none_first}
 use Rattle.record.proofs.OneReading.{one_reading}
 use Rattle.record.proofs.Forward.{call_kept}
 use Rattle.record.proofs.Agreed.{Agrees, idle_breaks, count_if, call_failure}
+use Rattle.transfers.specs.declared.answers.Step.TheVariants.{Done, Waiting}
+use Rattle.transfers.specs.declared.refusal.Refusal.{Refusal}
+use Rattle.transfers.specs.declared.answers.Step.{Step}
 
 -- ---- lists
 
@@ -184,10 +179,10 @@ setup_first (control_begin a z p s ph) buf so c ck q =
     (record { part = control_part a (low_bytes s) (high_bytes s) no_group; fits = (ck.addr, low_are s ck.kind, high_are s ck.kind, tt); rest = []; is = refl })
 setup_first (bulk_begin d a e p t b) buf so c ck q = absurd c
 
-known : (l : Live) (n : ℕ) (w : Watch) (f : File) (t : Transfer) (rest so : List Entry) (k : ℕ) → Inv l n w f t rest → Match l so rest k → Known l so
+known : (l : Live) (n : ℕ) (w : Watch) (f : File) (t : Option Run) (rest so : List Entry) (k : ℕ) → Inv l n w f t rest → Match l so rest k → Known l so
 known no_transfer n w f t rest so k i m = tt
-known (live x buf) n w f Idle rest so k i m = absurd i
-known (live x buf) n w f (Busy r) rest so k i m = (i.checked, by r.stage i.stage)
+known (live x buf) n w f None rest so k i m = absurd i
+known (live x buf) n w f (Some r) rest so k i m = (i.checked, by r.stage i.stage)
   where
     g : Begun
     g = record { fields = x; buffer = buf }
@@ -259,36 +254,36 @@ module _ (so rest rest' now : List Entry) (k : ℕ) (fs : List Fate) (M : List E
 
 -- ---- a begin is accepted only where nothing is under way, and only what is under way breaks
 
-inv_none : (n : ℕ) (w : Watch) (f : File) (t : Transfer) (rest : List Entry) → Inv no_transfer n w f t rest → (t ≡ Idle) × (rest ≡ [])
-inv_none n w f Idle rest i = (refl, i)
-inv_none n w f (Busy r) rest i = absurd i
+inv_none : (n : ℕ) (w : Watch) (f : File) (t : Option Run) (rest : List Entry) → Inv no_transfer n w f t rest → (t ≡ None) × (rest ≡ [])
+inv_none n w f None rest i = (refl, i)
+inv_none n w f (Some r) rest i = absurd i
 
-pub begin_busy : (r : Run) (x : Begin) (buf m log : List ℕ) → (beginning (Busy r) x buf m log).answer ≡ accepted → ⊥
+pub begin_busy : (r : Run) (x : Begin) (buf m log : List ℕ) → (beginning (Some r) x buf m log).answer ≡ Ok tt → ⊥
 unfolding begin_control_of begin_bulk_in_of begin_bulk_out_of
 begin_busy r x buf m log q = by x q
   where
-    go : (v : Bool) (why : OptionRefusal) (b : Beginning) → (begin_or (begin_refusal v false why) (Busy r) m b).answer ≡ accepted → ⊥
+    go : (v : Bool) (why : Result (Unit {0}) Refusal) (b : Beginning) → (begin_or (begin_refusal v false why) (Some r) m b).answer ≡ Ok tt → ⊥
     go true why b q = let z : ◌≡◌ {A = ℕ} 0 1 = cc in omega arith
     go false why b q = let z : ◌≡◌ {A = ℕ} 0 1 = cc in omega arith
 
-    by : (x : Begin) → (beginning (Busy r) x buf m log).answer ≡ accepted → ⊥
+    by : (x : Begin) → (beginning (Some r) x buf m log).answer ≡ Ok tt → ⊥
     by (control_begin a z p s ph) q = go (lent_fits m log) _ _ q
     by (bulk_begin In a e p t b) q = go (lent_fits m log) _ _ q
     by (bulk_begin Out a e p t b) q = go (lent_fits m log) _ _ q
 
-begins_idle : (t : Transfer) (x : Begin) (buf m log : List ℕ) (l : Live) (n : ℕ) (w : Watch) (f : File) (rest : List Entry) → Inv l n w f t rest
-    → (beginning t x buf m log).answer ≡ accepted → l ≡ no_transfer
+begins_idle : (t : Option Run) (x : Begin) (buf m log : List ℕ) (l : Live) (n : ℕ) (w : Watch) (f : File) (rest : List Entry) → Inv l n w f t rest
+    → (beginning t x buf m log).answer ≡ Ok tt → l ≡ no_transfer
 begins_idle t x buf m log no_transfer n w f rest i q = refl
-begins_idle Idle x buf m log (live y b) n w f rest i q = absurd i
-begins_idle (Busy r) x buf m log (live y b) n w f rest i q = absurd (begin_busy r x buf m log q)
+begins_idle None x buf m log (live y b) n w f rest i q = absurd i
+begins_idle (Some r) x buf m log (live y b) n w f rest i q = absurd (begin_busy r x buf m log q)
 
 pub not_began : {A : Type 0} (x : Begin) (buf : List ℕ) → nothing ≡ began x buf → A
 not_began x buf q = absurd (let z : ◌≡◌ {A = ℕ} 0 1 = cc in omega arith)
 
-step_not_began : {A : Type 0} (a : StepAnswer) (y : Sample) (now : List ℕ) (x : Begin) (buf : List ℕ) → note_step a y now ≡ began x buf → A
-step_not_began (Waiting again) y now x buf q = absurd (let z : ◌≡◌ {A = ℕ} 0 1 = cc in omega arith)
-step_not_began (Done k) y now x buf q = absurd (let z : ◌≡◌ {A = ℕ} 0 1 = cc in omega arith)
-step_not_began (Refused why) y now x buf q = by (ends why) q
+step_not_began : {A : Type 0} (a : Result Step Refusal) (y : Sample) (now : List ℕ) (x : Begin) (buf : List ℕ) → note_step a y now ≡ began x buf → A
+step_not_began (Ok (Waiting again)) y now x buf q = absurd (let z : ◌≡◌ {A = ℕ} 0 1 = cc in omega arith)
+step_not_began (Ok (Done k)) y now x buf q = absurd (let z : ◌≡◌ {A = ℕ} 0 1 = cc in omega arith)
+step_not_began (Err why) y now x buf q = by (ends why) q
   where
     by : {A : Type 0} (v : Bool) → cond v broke (stepped false y now) ≡ began x buf → A
     by true q = absurd (let z : ◌≡◌ {A = ℕ} 0 1 = cc in omega arith)
@@ -299,15 +294,15 @@ began_idle : (c : Call) (d : Driver) (l : Live) (n : ℕ) (w : Watch) (f : File)
 unfolding call
 began_idle (begin y b m log) d l n w f rest ty i x buf q = by (beginning d.transfer y b m log).answer refl q
   where
-    by : (a : BeginAnswer) → (beginning d.transfer y b m log).answer ≡ a → note (begin y b m log) a ≡ began x buf → (l ≡ no_transfer) × Bytes buf
-    by accepted e g = (begins_idle d.transfer y b m log l n w f rest i e, let z : b ≡ buf = cc in subst Bytes z ty.1)
-    by (refused_begin why) e g = not_began x buf g
+    by : (a : Result (Unit {0}) Refusal) → (beginning d.transfer y b m log).answer ≡ a → note (begin y b m log) a ≡ began x buf → (l ≡ no_transfer) × Bytes buf
+    by (Ok tt) e g = (begins_idle d.transfer y b m log l n w f rest i e, let z : b ≡ buf = cc in subst Bytes z ty.1)
+    by (Err why) e g = not_began x buf g
 began_idle (step v y b m log) d l n w f rest ty i x buf q = step_not_began (step_of v d.transfer y b m log).answer y b x buf q
 began_idle cancel d l n w f rest ty i x buf q = by (cancel_of d.transfer).answer q
   where
-    by : (a : CancelAnswer) → note cancel a ≡ began x buf → (l ≡ no_transfer) × Bytes buf
-    by Cancelled g = absurd (let z : ◌≡◌ {A = ℕ} 0 1 = cc in omega arith)
-    by (refused_cancel why) g = not_began x buf g
+    by : (a : Result (Unit {0}) Refusal) → note cancel a ≡ began x buf → (l ≡ no_transfer) × Bytes buf
+    by (Ok tt) g = absurd (let z : ◌≡◌ {A = ℕ} 0 1 = cc in omega arith)
+    by (Err why) g = not_began x buf g
 began_idle (open_pipe a z e p k log) d l n w f rest ty i x buf q = not_began x buf q
 began_idle (close_pipe k) d l n w f rest ty i x buf q = not_began x buf q
 began_idle (poll_pipe k y m log) d l n w f rest ty i x buf q = not_began x buf q
@@ -316,11 +311,11 @@ began_idle (detect sie log) d l n w f rest ty i x buf q = not_began x buf q
 
 -- ---- every list
 
-inv_agrees : (l : Live) (n : ℕ) (w : Watch) (f : File) (t : Transfer) (rest : List Entry) → Inv l n w f t rest → Agrees l t
-inv_agrees no_transfer n w f Idle rest i = tt
-inv_agrees no_transfer n w f (Busy r) rest i = absurd i
-inv_agrees (live x buf) n w f Idle rest i = absurd i
-inv_agrees (live x buf) n w f (Busy r) rest i = tt
+inv_agrees : (l : Live) (n : ℕ) (w : Watch) (f : File) (t : Option Run) (rest : List Entry) → Inv l n w f t rest → Agrees l t
+inv_agrees no_transfer n w f None rest i = tt
+inv_agrees no_transfer n w f (Some r) rest i = absurd i
+inv_agrees (live x buf) n w f None rest i = absurd i
+inv_agrees (live x buf) n w f (Some r) rest i = tt
 
 reads_from : (cs : List Call) (t : Told) (d : Driver) (rest so : List Entry) → AllTyped cs → Inv t.live t.stages t.watch t.file d.transfer rest → Match t.live so rest t.armings
     → PremisesFrom t (shown_from d cs) → Reads (fates_from t (shown_from d cs)) (map entry so ++ record_from t (shown_from d cs))

@@ -1,11 +1,10 @@
 -- Each call keeps the invariant; where no transfer fails the entries are those of the transfers begun. Assumes nothing.
+use Rattle.std.specs.Prelude.{None, Option, Some}
 use mathlib.Core.Path.{◌≡◌, refl, sym, ap, ◌∙◌, subst}
 use mathlib.Core.Bool.{Bool, true, false, true≢false}
 use mathlib.Core.List.{List, [], ◌∷◌, ◌++◌, append_assoc, append-nil}
 use Prim.Native.Nat.{ℕ}
 use Rattle.transfers.specs.declared.driver.Driver.{Driver}
-use Rattle.transfers.specs.declared.driver.Transfer.{Transfer}
-use Rattle.transfers.specs.declared.driver.Transfer.TheVariants.{Idle, Busy}
 use Rattle.transfers.specs.Log.{Write}
 use Rattle.transfers.specs.Calls.{cancel_if, stage_parity, either_serves, cancel_of}
 use Rattle.transfers.specs.Outcome.{toggle_in, toggle_out}
@@ -30,6 +29,7 @@ use Rattle.record.proofs.Parts.{armed_by_all}
 use Rattle.record.proofs.Inv.{Inv, Splits, Kept, wire_none, same_due, inv_kept}
 use Rattle.record.proofs.Stepping.{step_kept}
 use Rattle.record.proofs.Beginning.{begin_kept}
+use Rattle.transfers.specs.declared.driver.Run.{Run}
 
 -- ---- cancel, and the calls that serve the pipes, the interrupt routine and detection
 
@@ -37,20 +37,20 @@ cancel_kept : (d : Driver) (l : Live) (n : ℕ) (w : Watch) (f : File) (rest : L
 unfolding call cancel_of
 cancel_kept d l n w f rest i = at d.transfer i
   where
-    effect : Transfer → Effect cancel
+    effect : Option Run → Effect cancel
     effect t = let o = cancel_of t in record { next = with_transfer d o.next (entries_cancelled o.answer d.entries); answer = o.answer; writes = []; memory = []; armed = (call d cancel).armed; failed = failed_cancel o.answer d.entries }
 
-    at : (t : Transfer) → Inv l n w f t rest → Kept l n w f rest cancel (effect t)
-    at Idle i = record { rest' = rest; inv = i; split = same_due f [] [] rest refl; room = λ q r. r }
-    at (Busy u) i = by (either_serves u)
+    at : (t : Option Run) → Inv l n w f t rest → Kept l n w f rest cancel (effect t)
+    at None i = record { rest' = rest; inv = i; split = same_due f [] [] rest refl; room = λ q r. r }
+    at (Some u) i = by (either_serves u)
       where
         by : (b : Bool) → Kept l n w f rest cancel
-            (let o = cancel_if b (Busy u) (toggle_in u.request.kind) (toggle_out u.request.kind (stage_parity u.stage)) in record { next = with_transfer d o.next (entries_cancelled o.answer d.entries); answer = o.answer; writes = []; memory = []; armed = (call d cancel).armed; failed = failed_cancel o.answer d.entries })
+            (let o = cancel_if b (Some u) (toggle_in u.request.kind) (toggle_out u.request.kind (stage_parity u.stage)) in record { next = with_transfer d o.next (entries_cancelled o.answer d.entries); answer = o.answer; writes = []; memory = []; armed = (call d cancel).armed; failed = failed_cancel o.answer d.entries })
         by false = record { rest' = rest; inv = i; split = same_due f [] [] rest refl; room = λ q r. r }
         by true = record { rest' = []; inv = refl; split = wire_none f [] [] refl; room = λ q r. absurd (true≢false q) }
 
 -- A silent log, with the transfer as it was.
-passes : (l : Live) (n : ℕ) (w : Watch) (f : File) (t : Transfer) (rest : List Entry) (ws : List Write) → Silent ws → Inv l n w f t rest
+passes : (l : Live) (n : ℕ) (w : Watch) (f : File) (t : Option Run) (rest : List Entry) (ws : List Write) → Silent ws → Inv l n w f t rest
     → Inv l n (marks w (events f ws)) (performs f ws) t rest
 passes l n w f t rest ws s i = inv_kept l n w (marks w (events f ws)) f (performs f ws) t rest (λ ks o. rw (s.are f) o) (s.addr f) i
 
@@ -86,9 +86,9 @@ armed_append : (a b : List Begun) → armed_by_all (a ++ b) ≡ armed_by_all a +
 armed_append [] b = refl
 armed_append (g ∷ a) b = ap (λ (r : List Entry). armed_by g ++ r) (armed_append a b) ∙ sym (append_assoc (armed_by g) (armed_by_all a) (armed_by_all b))
 
-none_due : (n : ℕ) (w : Watch) (f : File) (t : Transfer) (rest : List Entry) → Inv no_transfer n w f t rest → rest ≡ []
-none_due n w f Idle rest i = i
-none_due n w f (Busy r) rest i = absurd i
+none_due : (n : ℕ) (w : Watch) (f : File) (t : Option Run) (rest : List Entry) → Inv no_transfer n w f t rest → rest ≡ []
+none_due n w f None rest i = i
+none_due n w f (Some r) rest i = absurd i
 
 -- The record of a list is what is due and then the entries of the transfers begun.
 record_is : (cs : List Call) (l : Live) (n : ℕ) (w : Watch) (f : File) (d : Driver) (rest : List Entry) → AllTyped cs → Inv l n w f d.transfer rest
@@ -113,6 +113,6 @@ record_is (c ∷ cs) l n w f d rest ty i h =
 
 -- ---- from a driver with nothing under way, over any registers
 
-pub record_of_begun : (cs : List Call) (n : ℕ) (w : Watch) (f : File) (d : Driver) → d.transfer ≡ Idle → AllTyped cs → UnbrokenFrom no_transfer n w f d cs
+pub record_of_begun : (cs : List Call) (n : ℕ) (w : Watch) (f : File) (d : Driver) → d.transfer ≡ None → AllTyped cs → UnbrokenFrom no_transfer n w f d cs
     → entries_from f d cs ≡ armed_by_all (begun_from (shown_from d cs))
-record_of_begun cs n w f d e ty h = record_is cs no_transfer n w f d [] ty (subst (λ (t : Transfer). Inv no_transfer n w f t []) (sym e) refl) h
+record_of_begun cs n w f d e ty h = record_is cs no_transfer n w f d [] ty (subst (λ (t : Option Run). Inv no_transfer n w f t []) (sym e) refl) h

@@ -17,11 +17,13 @@ use Rattle.record.specs.Reader.{look}
 use Rattle.record.specs.Items.{group_look, group_of, group_from, group_at_of, sent_look, sent_at, failed_look, failed_at, unless_failed, item_look, item_at, item_for, next_of, items_from, items_for, answers_for, moves}
 use Rattle.record.specs.Verdict.{record_in}
 use Rattle.record.specs.declared.look.Look.{Look}
-use Rattle.record.specs.declared.look.Look.TheVariants.{Setup, Out, Failed, Bad, End}
+use Rattle.record.specs.declared.look.Look.TheVariants.{Setup, Out, Failed}
+use Rattle.record.specs.declared.refusal.Refusal.{Refusal}
+use Rattle.std.specs.Prelude.{Option, Some, None, Result, Ok, Err}
+use Rattle.std.proofs.Common.{Continue}
 use Rattle.record.specs.declared.items.Span.{Span}
-use Rattle.record.specs.declared.items.SpanTurn.TheVariants.{More}
 use Rattle.record.specs.declared.items.ItemAnswer.{ItemAnswer}
-use Rattle.record.specs.declared.items.ItemAnswer.TheVariants.{Control, Bulk, Failed as failed_item, End as no_item}
+use Rattle.record.specs.declared.items.ItemAnswer.TheVariants.{Control, Bulk, Failed as failed_item}
 use Rattle.record.proofs.Encoding.{encode_append, elements_append, elements_entries}
 use Rattle.record.proofs.Decoding.{look_of, look_encode, drop_encode, see_failed}
 use Rattle.record.proofs.Spans.{group_more, group_ended}
@@ -46,9 +48,9 @@ unfolding encode_all
 few [] = omega arith
 few (e ∷ es) = let z = few es in let y = encode_some e in let x = length-append (encode e) (encode_all es) in omega arith
 
-group_at : (s : List ℕ) (p : Span) (y : Look) → look (drop p.at s) ≡ y → group_of s p ≡ group_look y p
+group_at : (s : List ℕ) (p : Span) (y : Result (Option Look) Refusal) → look (drop p.at s) ≡ y → group_of s p ≡ group_look y p
 unfolding group_of
-group_at s p y q = ap (λ (v : Look). group_look v p) q
+group_at s p y q = ap (λ (v : Result (Option Look) Refusal). group_look v p) q
 
 same_span : {a a' k k' : ℕ} → a ≡ a' → k ≡ k' → ◌≡◌ {A = Span} (record { at = a; count = k }) (record { at = a'; count = k' })
 same_span e f = ap₂ (λ (x y : ℕ). record { at = x; count = y }) e f
@@ -68,7 +70,7 @@ walk (x ∷ xs) s p f a n v l rest q h =
     let r = encode_all (group a n (not v) xs l) in
     let k : drop p.at s ≡ encode e ++ (r ++ rest) = q ∙ append_assoc (encode e) r rest in
     let m : Span = record { at = p.at + (6 + length x); count = p.count + length x } in
-    let g : group_of s p ≡ More m = group_at s p (look_of e) (look_at s p.at e (r ++ rest) k h.0) in
+    let g : group_of s p ≡ Continue m = group_at s p (look_of e) (look_at s p.at e (r ++ rest) k h.0) in
     let d : drop m.at s ≡ r ++ rest = let w : p.at + length (encode e) ≡ p.at + (6 + length x) = omega arith in ap (λ (i : ℕ). drop i s) (sym w) ∙ after_entry s p.at e (r ++ rest) k in
     let z : length (x ∷ xs) + suc f ≡ suc (length xs + suc f) = omega arith in
     let y = length-append (encode e) r in
@@ -94,32 +96,32 @@ walked xs s at a n v l rest q h =
 -- ---- what stands after a whole transfer
 
 -- No packet on endpoint 0, and no count above 0.
-abbrev Quiet : Look → Type 0
-Quiet (Out x) = eqb x.endpoint 0 ≡ false
-Quiet (Setup a w) = Unit {0}
-Quiet (Failed m) = m ≡ 0
-Quiet Bad = Unit {0}
-Quiet End = Unit {0}
+abbrev Quiet : Result (Option Look) Refusal → Type 0
+Quiet (Ok (Some (Out x))) = eqb x.endpoint 0 ≡ false
+Quiet (Ok (Some (Setup a w))) = Unit {0}
+Quiet (Ok (Some (Failed m))) = m ≡ 0
+Quiet (Ok None) = Unit {0}
+Quiet (Err why) = Unit {0}
 
-quiet_failed : (y : Look) → Quiet y → failed_look y ≡ false
-quiet_failed (Out x) q = refl
-quiet_failed (Setup a w) q = refl
-quiet_failed (Failed m) q = ap (λ (n : ℕ). not (eqb n 0)) q
-quiet_failed Bad q = refl
-quiet_failed End q = refl
+quiet_failed : (y : Result (Option Look) Refusal) → Quiet y → failed_look y ≡ false
+quiet_failed (Ok (Some (Out x))) q = refl
+quiet_failed (Ok (Some (Setup a w))) q = refl
+quiet_failed (Ok (Some (Failed m))) q = ap (λ (n : ℕ). not (eqb n 0)) q
+quiet_failed (Ok None) q = refl
+quiet_failed (Err why) q = refl
 
-sent_at_lem : (s : List ℕ) (at : ℕ) (y : Look) → look (drop at s) ≡ y → sent_at s at ≡ sent_look y s at
+sent_at_lem : (s : List ℕ) (at : ℕ) (y : Result (Option Look) Refusal) → look (drop at s) ≡ y → sent_at s at ≡ sent_look y s at
 unfolding sent_at
-sent_at_lem s at y q = ap (λ (v : Look). sent_look v s at) q
+sent_at_lem s at y q = ap (λ (v : Result (Option Look) Refusal). sent_look v s at) q
 
-quiet_sent : (s : List ℕ) (at : ℕ) (y : Look) → Quiet y → sent_look y s at ≡ record { at = at; count = 0 }
-quiet_sent s at (Out x) q = ap (λ (b : Bool). cond b (group_at_of s at) (record { at = at; count = 0 })) q
-quiet_sent s at (Setup a w) q = refl
-quiet_sent s at (Failed m) q = refl
-quiet_sent s at Bad q = refl
-quiet_sent s at End q = refl
+quiet_sent : (s : List ℕ) (at : ℕ) (y : Result (Option Look) Refusal) → Quiet y → sent_look y s at ≡ record { at = at; count = 0 }
+quiet_sent s at (Ok (Some (Out x))) q = ap (λ (b : Bool). cond b (group_at_of s at) (record { at = at; count = 0 })) q
+quiet_sent s at (Ok (Some (Setup a w))) q = refl
+quiet_sent s at (Ok (Some (Failed m))) q = refl
+quiet_sent s at (Ok None) q = refl
+quiet_sent s at (Err why) q = refl
 
-failed_at_lem : (s : List ℕ) (at : ℕ) (y : Look) → look (drop at s) ≡ y → failed_at s at ≡ failed_look y
+failed_at_lem : (s : List ℕ) (at : ℕ) (y : Result (Option Look) Refusal) → look (drop at s) ≡ y → failed_at s at ≡ failed_look y
 unfolding failed_at
 failed_at_lem s at y q = ap failed_look q
 
@@ -130,13 +132,13 @@ first_zero a [] l rest s at q h =
 first_zero a (x ∷ xs) l rest s at q h =
     sent_at_lem s at (look_of (out a 0 true false x)) (look_at s at (out a 0 true false x) (encode_all (group a 0 false xs l) ++ rest) (q ∙ append_assoc (encode (out a 0 true false x)) (encode_all (group a 0 false xs l)) rest) h.0)
 
-item_at_lem : (s : List ℕ) (at : ℕ) (y : Look) → look (drop at s) ≡ y → item_at s at ≡ item_look y s at
+item_at_lem : (s : List ℕ) (at : ℕ) (y : Result (Option Look) Refusal) → look (drop at s) ≡ y → item_at s at ≡ item_look y s at
 unfolding item_at
-item_at_lem s at y q = ap (λ (v : Look). item_look v s at) q
+item_at_lem s at y q = ap (λ (v : Result (Option Look) Refusal). item_look v s at) q
 
 -- ---- whole transfers
 
-unless_not : (s : List ℕ) (at : ℕ) (r : List ℕ) (n : ℕ) (y : ItemAnswer) → drop at s ≡ r → Quiet (look r) → unless_failed (failed_at s at) n y ≡ y
+unless_not : (s : List ℕ) (at : ℕ) (r : List ℕ) (n : ℕ) (y : ItemAnswer) → drop at s ≡ r → Quiet (look r) → unless_failed (failed_at s at) n y ≡ Some y
 unless_not s at r n y q h = ap (λ (b : Bool). unless_failed b n y) (failed_at_lem s at (look r) (ap look q) ∙ quiet_failed (look r) h)
 
 bulk_handed : (a n : ℕ) (v : Bool) (xs : List (List ℕ)) (l rest s : List ℕ) (at : ℕ) → AllInRange (group a n v xs l) → drop at s ≡ encode_all (group a n v xs l) ++ rest → Quiet (look rest)
@@ -173,7 +175,7 @@ control_handed a (four b0 b1 b2 b3) (four b4 b5 b6 b7) t rest s at f q y =
     item_at_lem s at (look_of e) (look_at s at e r q h.0)
     ∙ ap (λ (x : Span). unless_failed (failed_at s x.at) x.at (Control (record { address = a; setup = at + 2; count = x.count; next = record { at = x.at } }))) (sent_walked a t rest s (at + 10) h.1 d y)
     ∙ unless_not s end rest end _ (after_all s (at + 10) (encode_all (sent_entries a t)) rest d) y
-    ∙ ap (λ (m : ℕ). Control (record { address = a; setup = at + 2; count = length (sent_bytes t); next = record { at = m } })) (omega arith)
+    ∙ ap (λ (m : ℕ). Some (Control (record { address = a; setup = at + 2; count = length (sent_bytes t); next = record { at = m } }))) (omega arith)
 
 setup_first : (a : ℕ) (lo hi : Four) (es : List Entry) (rest : List ℕ) → encode_all (setup a lo hi ∷ es) ++ rest ≡ encode (setup a lo hi) ++ (encode_all es ++ rest)
 unfolding encode_all
@@ -245,13 +247,13 @@ all_handed (p ∷ ps) k rest s at f q y =
     let e = encode_append (part_entries p) (parts_entries ps) in
     let q₁ : drop at s ≡ encode_all (part_entries p) ++ (b ++ rest) = q ∙ ap (λ (l : List ℕ). l ++ rest) e ∙ append_assoc (encode_all (part_entries p)) b rest in
     let h = handed p (b ++ rest) s at f.0 q₁ (parts_quiet ps rest f.1 y) in
-    let m : next_of (item_at s at) at ≡ at + n = ap (λ (v : ItemAnswer). next_of v at) h ∙ next_for p at at in
+    let m : next_of (item_at s at) at ≡ at + n = ap (λ (v : Option ItemAnswer). next_of v at) h ∙ next_for p at at in
     let l = ap length e ∙ length-append (encode_all (part_entries p)) b in
     let ih = all_handed ps k rest s (at + n) f.1 (after_all s at (encode_all (part_entries p)) (b ++ rest) q₁) y in
     ap (λ (i : ℕ). items_from i s at) (let x : length (p ∷ ps) + k ≡ suc (length ps + k) = omega arith in x)
     ∙ one_item (length ps + k) s at
-    ∙ ap₂ (λ (v : ItemAnswer) (i : ℕ). v ∷ items_from (length ps + k) s i) h m
-    ∙ ap (λ (v : List ItemAnswer). item_for p at ∷ v) (ih ∙ ap (λ (i : ℕ). items_for ps (at + n) ++ items_from k s i) (let x : (at + n) + length b ≡ at + length (encode_all (part_entries p ++ parts_entries ps)) = omega arith in x))
+    ∙ ap₂ (λ (v : Option ItemAnswer) (i : ℕ). v ∷ items_from (length ps + k) s i) h m
+    ∙ ap (λ (v : List (Option ItemAnswer)). item_for p at ∷ v) (ih ∙ ap (λ (i : ℕ). items_for ps (at + n) ++ items_from k s i) (let x : (at + n) + length b ≡ at + length (encode_all (part_entries p ++ parts_entries ps)) = omega arith in x))
 
 -- ---- a transfer that failed
 
@@ -260,7 +262,7 @@ walk_first : (es rest : List Entry) (xs : List (List ℕ)) (s : List ℕ) (p : S
     → drop p.at s ≡ encode_all es ++ (failed_bytes m ++ post) → (group_from (length es + suc f) s p).at ≡ p.at + length (encode_all es)
 unfolding encode_all
 walk_first [] rest xs s p f a n m v l post k h q =
-    let g = group_at s p (Failed m) (ap look q ∙ see_failed m post) in
+    let g = group_at s p (Ok (Some (Failed m))) (ap look q ∙ see_failed m post) in
     let z : 0 + suc f ≡ suc f = omega arith in
     ap (λ (i : ℕ). (group_from i s p).at) z ∙ ap (λ (x : Span). x.at) (group_ended f s p p g) ∙ omega arith
 walk_first (e ∷ es) rest [] s p f a n m v l post k h q =
@@ -283,7 +285,7 @@ walk_first (e ∷ es) rest (x ∷ xs) s p f a n m v l post k h q =
     let d : drop p.at s ≡ encode (out a n v false x) ++ (encode_all es ++ (failed_bytes m ++ post)) =
     q ∙ append_assoc (encode e) (encode_all es) (failed_bytes m ++ post) ∙ ap (λ (y : Entry). encode y ++ (encode_all es ++ (failed_bytes m ++ post))) (head-eq_of_cons-eq k) in
     let r : Span = record { at = p.at + (6 + length x); count = p.count + length x } in
-    let g : group_of s p ≡ More r = group_at s p (look_of (out a n v false x)) (look_at s p.at (out a n v false x) _ d (subst InRange (head-eq_of_cons-eq k) h.0)) in
+    let g : group_of s p ≡ Continue r = group_at s p (look_of (out a n v false x)) (look_at s p.at (out a n v false x) _ d (subst InRange (head-eq_of_cons-eq k) h.0)) in
     let w = ap (λ (y : Entry). length (encode y)) (head-eq_of_cons-eq k) in
     let w₂ : length (encode (out a n v false x)) ≡ 6 + length x = omega arith in
     let o : drop r.at s ≡ encode_all es ++ (failed_bytes m ++ post) =
@@ -305,10 +307,10 @@ walked_first es rest xs s at a n m v l post k h q =
     let i : suc (length s) ≡ length es + suc (length s - length es) = omega arith in
     ap (λ (j : ℕ). (group_from j s (record { at = at; count = 0 })).at) i ∙ walk_first es rest xs s (record { at = at; count = 0 }) (length s - length es) a n m v l post k h q
 
-unless_failed_lem : (s : List ℕ) (at n : ℕ) (m : ℕ) (post : List ℕ) (y : ItemAnswer) → drop at s ≡ failed_bytes (suc m) ++ post → at ≡ n → unless_failed (failed_at s at) at y ≡ failed_item (record { at = n + 5 })
+unless_failed_lem : (s : List ℕ) (at n : ℕ) (m : ℕ) (post : List ℕ) (y : ItemAnswer) → drop at s ≡ failed_bytes (suc m) ++ post → at ≡ n → unless_failed (failed_at s at) at y ≡ Some (failed_item (record { at = n + 5 }))
 unless_failed_lem s at n m post y q e =
-    ap (λ (b : Bool). unless_failed b at y) (failed_at_lem s at (Failed (suc m)) (ap look q ∙ see_failed (suc m) post) ∙ ap not (ne_eqb (suc m) 0 (λ (z : suc m ≡ 0). omega arith)))
-    ∙ ap (λ (i : ℕ). failed_item (record { at = i + 5 })) e
+    ap (λ (b : Bool). unless_failed b at y) (failed_at_lem s at (Ok (Some (Failed (suc m)))) (ap look q ∙ see_failed (suc m) post) ∙ ap not (ne_eqb (suc m) 0 (λ (z : suc m ≡ 0). omega arith)))
+    ∙ ap (λ (i : ℕ). Some (failed_item (record { at = i + 5 }))) e
 
 tail_is : {e x : Entry} {a b : List Entry} → e ∷ a ≡ x ∷ b → a ≡ b
 tail_is q = tail-eq_of_cons-eq q
@@ -316,13 +318,13 @@ tail_is q = tail-eq_of_cons-eq q
 -- A failed transfer that begins with an OUT packet.
 first_out : (a n : ℕ) (v last : Bool) (l : List ℕ) (es : List Entry) (s : List ℕ) (at : ℕ) (post : List ℕ) (k : FirstPart (out a n v last l ∷ es))
     → drop at s ≡ encode_all (out a n v last l ∷ es) ++ (failed_bytes (suc (length es)) ++ post)
-    → item_at s at ≡ failed_item (record { at = at + length (encode_all (out a n v last l ∷ es)) + 5 })
+    → item_at s at ≡ Some (failed_item (record { at = at + length (encode_all (out a n v last l ∷ es)) + 5 }))
 first_out a n v last l es s at post k q = go k.part k.is
   where
     e : Entry
     e = out a n v last l
 
-    go : (p : Part) → (out a n v last l ∷ es) ++ k.rest ≡ part_entries p → item_at s at ≡ failed_item (record { at = at + length (encode_all (out a n v last l ∷ es)) + 5 })
+    go : (p : Part) → (out a n v last l ∷ es) ++ k.rest ≡ part_entries p → item_at s at ≡ Some (failed_item (record { at = at + length (encode_all (out a n v last l ∷ es)) + 5 }))
     go (control_part a' lo hi t) j = absurd-eq (cc)
     go (bulk_part a' n' v' xs l') j =
         let h = first_ranged (out a n v last l ∷ es) k in
@@ -336,7 +338,7 @@ sent_first : (a : ℕ) (t : Sent) (es rest : List Entry) (s : List ℕ) (at m : 
     → drop at s ≡ encode_all es ++ (failed_bytes m ++ post) → (sent_at s at).at ≡ at + length (encode_all es)
 unfolding encode_all
 sent_first a t [] rest s at m post j h q =
-    ap (λ (x : Span). x.at) (sent_at_lem s at (Failed m) (ap look q ∙ see_failed m post)) ∙ omega arith
+    ap (λ (x : Span). x.at) (sent_at_lem s at (Ok (Some (Failed m))) (ap look q ∙ see_failed m post)) ∙ omega arith
 sent_first a no_group (e ∷ es) rest s at m post j h q = absurd-eq (cc)
 sent_first a (one_group xs l) (setup a' lo hi ∷ es) rest s at m post j h q = no_setup xs j
   where
@@ -357,12 +359,12 @@ sent_first a (one_group xs l) (out a' n v last x ∷ es) rest s at m post j h q 
 -- A failed transfer that begins with a SETUP.
 first_setup : (a : ℕ) (lo hi : Four) (es : List Entry) (s : List ℕ) (at : ℕ) (post : List ℕ) (k : FirstPart (setup a lo hi ∷ es))
     → drop at s ≡ encode_all (setup a lo hi ∷ es) ++ (failed_bytes (suc (length es)) ++ post)
-    → item_at s at ≡ failed_item (record { at = at + length (encode_all (setup a lo hi ∷ es)) + 5 })
+    → item_at s at ≡ Some (failed_item (record { at = at + length (encode_all (setup a lo hi ∷ es)) + 5 }))
 unfolding encode_all
 first_setup a (four b0 b1 b2 b3) (four b4 b5 b6 b7) es s at post k q = go k.part k.is
   where
     go : (p : Part) → (setup a (four b0 b1 b2 b3) (four b4 b5 b6 b7) ∷ es) ++ k.rest ≡ part_entries p
-        → item_at s at ≡ failed_item (record { at = at + length (encode (setup a (four b0 b1 b2 b3) (four b4 b5 b6 b7)) ++ encode_all es) + 5 })
+        → item_at s at ≡ Some (failed_item (record { at = at + length (encode (setup a (four b0 b1 b2 b3) (four b4 b5 b6 b7)) ++ encode_all es) + 5 }))
     go (bulk_part a' n v [] l) j = absurd-eq (cc)
     go (bulk_part a' n v (x ∷ xs) l) j = absurd-eq (cc)
     go (control_part a' lo' hi' t) j =
@@ -376,14 +378,14 @@ first_setup a (four b0 b1 b2 b3) (four b4 b5 b6 b7) es s at post k q = go k.part
         let y = length-append (encode e) (encode_all es) in
         item_at_lem s at (look_of e) (look_at s at e (encode_all es ++ r) d h.0)
         ∙ unless_failed_lem s (sent_at s (at + 10)).at (at + 10 + length (encode_all es)) (length es) post _ (ap (λ (i : ℕ). drop i s) w ∙ g) w
-        ∙ ap (λ (i : ℕ). failed_item (record { at = i + 5 })) (omega arith)
+        ∙ ap (λ (i : ℕ). Some (failed_item (record { at = i + 5 }))) (omega arith)
 
 -- The entries of a transfer that failed, with their count after them, are passed over.
 first_handed : (es : List Entry) (s : List ℕ) (at : ℕ) (post : List ℕ) → FirstPart es → drop at s ≡ encode_all es ++ (failed_bytes (length es) ++ post)
-    → item_at s at ≡ failed_item (record { at = at + length (encode_all es) + 5 })
+    → item_at s at ≡ Some (failed_item (record { at = at + length (encode_all es) + 5 }))
 first_handed [] s at post k q =
     let z = nil_length in
-    item_at_lem s at (Failed 0) (ap look (q ∙ nil_bytes (failed_bytes 0 ++ post)) ∙ see_failed 0 post) ∙ ap (λ (i : ℕ). failed_item (record { at = i + 5 })) (omega arith)
+    item_at_lem s at (Ok (Some (Failed 0))) (ap look (q ∙ nil_bytes (failed_bytes 0 ++ post)) ∙ see_failed 0 post) ∙ ap (λ (i : ℕ). Some (failed_item (record { at = i + 5 }))) (omega arith)
 first_handed (setup a lo hi ∷ es) s at post k q = first_setup a lo hi es s at post k q
 first_handed (out a n v last l ∷ es) s at post k q = first_out a n v last l es s at post k q
 
@@ -395,7 +397,7 @@ first_quiet (e ∷ es) post k =
     let r = failed_bytes (suc (length es)) ++ post in
     subst (λ (l : List ℕ). Quiet (look l)) (sym (cons_bytes e es r)) (part_quiet k.part (es ++ k.rest) e (encode_all es ++ r) k.fits (sym k.is))
 
-look_nil : look [] ≡ End
+look_nil : look [] ≡ Ok None
 unfolding look
 look_nil = refl
 
@@ -415,10 +417,10 @@ pub handed_out : (gs : List Segment) (ps : List Part) (s : List ℕ) (at : ℕ) 
 handed_out [] ps s at f g q =
     let b = q ∙ sym (elements_entries (parts_entries ps)) ∙ sym (append-nil (encode_all (parts_entries ps))) in
     let end = at + length (encode_all (parts_entries ps)) in
-    let z : item_at s end ≡ no_item = item_at_lem s end End (ap look (after_all s at (encode_all (parts_entries ps)) [] b) ∙ look_nil) in
+    let z : item_at s end ≡ None = item_at_lem s end (Ok None) (ap look (after_all s at (encode_all (parts_entries ps)) [] b) ∙ look_nil) in
     ap (λ (i : ℕ). items_from i s at) (let x : suc (length ps) ≡ length ps + 1 = omega arith in x)
     ∙ all_handed ps 1 [] s at g b end_quiet
-    ∙ ap (λ (l : List ItemAnswer). items_for ps at ++ l) (one_item 0 s end ∙ ap₂ {C = List ItemAnswer} ◌∷◌ z (none_left s (next_of (item_at s end) end)))
+    ∙ ap (λ (l : List (Option ItemAnswer)). items_for ps at ++ l) (one_item 0 s end ∙ ap₂ {C = List (Option ItemAnswer)} ◌∷◌ z (none_left s (next_of (item_at s end) end)))
 handed_out (g ∷ gs) ps s at f h q =
     let before = encode_all (parts_entries g.whole) in
     let first = encode_all g.first in
@@ -433,12 +435,12 @@ handed_out (g ∷ gs) ps s at f h q =
     let q₄ : drop end s ≡ post = ap (λ (i : ℕ). drop i s) (let x : end ≡ (at + length before + length first) + 5 = omega arith in x)
     ∙ after_all s (at + length before + length first) (failed_bytes (length g.first)) post q₃ in
     let k = moves gs ps in
-    let fh = first_handed g.first s (at + length before) post f.0.1 q₂ ∙ ap (λ (i : ℕ). failed_item (record { at = i + 5 })) (let x : (at + length before) + length first ≡ at + length (encode_all (parts_entries g.whole ++ g.first)) = omega arith in x) in
+    let fh = first_handed g.first s (at + length before) post f.0.1 q₂ ∙ ap (λ (i : ℕ). Some (failed_item (record { at = i + 5 }))) (let x : (at + length before) + length first ≡ at + length (encode_all (parts_entries g.whole ++ g.first)) = omega arith in x) in
     all_handed g.whole (suc k) (first ++ r) s at f.0.0 q₁ (first_quiet g.first post f.0.1)
-    ∙ ap (λ (v : List ItemAnswer). items_for g.whole at ++ v)
+    ∙ ap (λ (v : List (Option ItemAnswer)). items_for g.whole at ++ v)
     (one_item k s (at + length before)
-    ∙ ap (λ (y : ItemAnswer). y ∷ items_from k s (next_of y (at + length before))) fh
-    ∙ ap (λ (v : List ItemAnswer). failed_item (record { at = end }) ∷ v) (handed_out gs ps s end f.1 h q₄))
+    ∙ ap (λ (y : Option ItemAnswer). y ∷ items_from k s (next_of y (at + length before))) fh
+    ∙ ap (λ (v : List (Option ItemAnswer)). Some (failed_item (record { at = end })) ∷ v) (handed_out gs ps s end f.1 h q₄))
 
 pub drop_record : (two : Bool) (ms : List Element) → drop 5 (record_in two ms) ≡ encode_elements ms
 unfolding record_in

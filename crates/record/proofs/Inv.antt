@@ -1,4 +1,5 @@
 -- The invariant of a list of calls: the driver's state against the transfer under way and the entries that are still due. Assumes nothing.
+use Rattle.std.specs.Prelude.{None, Option, Some}
 use mathlib.Core.Path.{◌≡◌, refl, sym, ap, ◌∙◌}
 use mathlib.Core.Bool.{Bool, true, false, cond}
 use mathlib.Core.List.{List, [], ◌++◌, map, append-nil}
@@ -10,8 +11,6 @@ use Rattle.cutting.specs.Left.{OutLeft, Ends}
 use Rattle.transfers.specs.declared.host_controller.DataPhase.TheVariants.{In as phase_in, Out as phase_out, None as phase_none}
 use Rattle.transfers.specs.declared.wire.Direction.TheVariants.{In, Out}
 use Rattle.transfers.specs.declared.sample.Sample.{Sample}
-use Rattle.transfers.specs.declared.driver.Transfer.{Transfer}
-use Rattle.transfers.specs.declared.driver.Transfer.TheVariants.{Idle, Busy}
 use Rattle.transfers.specs.declared.driver.Run.{Run}
 use Rattle.transfers.specs.declared.driver.Stage.{Stage}
 use Rattle.transfers.specs.declared.driver.Stage.TheVariants.{Setup as setup_stage, In as in_stage, Out as out_stage}
@@ -112,11 +111,11 @@ pub record BusyInv (x : Begin) (buf : List ℕ) (n : ℕ) (w : Watch) (f : File)
   pub checked : Checked x buf
   pub stage : StageInv x buf n w f r.stage rest
 
-abbrev pub Inv : Live → ℕ → Watch → File → Transfer → List Entry → Type 0
-Inv no_transfer n w f Idle rest = rest ≡ []
-Inv no_transfer n w f (Busy r) rest = ⊥
-Inv (live x buf) n w f Idle rest = ⊥
-Inv (live x buf) n w f (Busy r) rest = BusyInv x buf n w f r rest
+abbrev pub Inv : Live → ℕ → Watch → File → Option Run → List Entry → Type 0
+Inv no_transfer n w f None rest = rest ≡ []
+Inv no_transfer n w f (Some r) rest = ⊥
+Inv (live x buf) n w f None rest = ⊥
+Inv (live x buf) n w f (Some r) rest = BusyInv x buf n w f r rest
 
 -- A control Out's buffer holds wLength bytes.
 abbrev pub RoomOf : Live → Type 0
@@ -162,10 +161,10 @@ stage_kept x buf n w v f g (out_stage st) rest o e i =
     let s = i.1 in
     (i.0, record { shown = shown_file f g (address_of x) (endpoint_of (kind_of x)) e s.shown; packets = s.packets; left = s.left; ends = s.ends; over = o s.packets s.over; due = s.due })
 
-pub inv_kept : (l : Live) (n : ℕ) (w v : Watch) (f g : File) (t : Transfer) (rest : List Entry) → ((ks : Packets) → Over w ks → Over v ks) → g addr_endp ≡ f addr_endp
+pub inv_kept : (l : Live) (n : ℕ) (w v : Watch) (f g : File) (t : Option Run) (rest : List Entry) → ((ks : Packets) → Over w ks → Over v ks) → g addr_endp ≡ f addr_endp
     → Inv l n w f t rest → Inv l n v g t rest
-inv_kept no_transfer n w v f g Idle rest o e i = i
-inv_kept no_transfer n w v f g (Busy r) rest o e i = absurd i
-inv_kept (live x buf) n w v f g Idle rest o e i = absurd i
-inv_kept (live x buf) n w v f g (Busy r) rest o e i =
+inv_kept no_transfer n w v f g None rest o e i = i
+inv_kept no_transfer n w v f g (Some r) rest o e i = absurd i
+inv_kept (live x buf) n w v f g None rest o e i = absurd i
+inv_kept (live x buf) n w v f g (Some r) rest o e i =
     record { same = i.same; checked = i.checked; stage = stage_kept x buf n w v f g r.stage rest o e i.stage }

@@ -1,5 +1,6 @@
 -- The writer, called after every begin and step and refused nowhere, leaves the record's bytes.
 -- Assumes nothing.
+use Rattle.std.specs.Prelude.{None, Option, Some}
 use mathlib.Core.Path.{◌≡◌, refl, ap, ap₂, sym, subst, ◌∙◌}
 use mathlib.Core.Bool.{Bool, true, false}
 use mathlib.Core.List.{List, [], ◌∷◌, ◌++◌, map, append_assoc, append-nil}
@@ -10,8 +11,6 @@ use lib.Seq.{sets, sets-eq, length-sets, length-take-le, take_at, drop_at, drop-
 use lib.Dec.{eqb, leb}
 use borrow.Author.Tests.{leb-true, ne_eqb}
 use Rattle.transfers.specs.declared.answers.Armed.{Armed}
-use Rattle.transfers.specs.declared.answers.OptionEntries.{OptionEntries}
-use Rattle.transfers.specs.declared.answers.OptionEntries.TheVariants.{Some as some_count, None as no_count}
 use Rattle.transfers.specs.declared.driver.Driver.{Driver}
 use Rattle.transfers.specs.Answers.{nothing_armed}
 use Rattle.record.specs.Segments.{Element, entry}
@@ -52,26 +51,26 @@ unfolding record_of
 more es x = append_assoc head_bytes (encode_elements es) (encode_elements x) ∙ ap (λ (l : List ℕ). head_bytes ++ l) (sym (elements_append es x))
 
 -- What a call tells the writer: the entries that it armed, and its count.
-abbrev pub told : List ℕ → Armed → OptionEntries → List Element
+abbrev pub told : List ℕ → Armed → Option ℕ → List Element
 told m a x = map entry (entries_armed m a) ++ counted x
 
-count_bytes_lem : (x : OptionEntries) → count_bytes x ≡ encode_elements (counted x)
+count_bytes_lem : (x : Option ℕ) → count_bytes x ≡ encode_elements (counted x)
 unfolding encode_elements
-count_bytes_lem no_count = refl
-count_bytes_lem (some_count n) = sym (append-nil (failed_bytes n))
+count_bytes_lem None = refl
+count_bytes_lem (Some n) = sym (append-nil (failed_bytes n))
 
 entries_only : (a : Armed) (m : List ℕ) (n : ℕ) → 5 ≤ n → appended a m n ≡ encode_all (entries_armed m a)
 unfolding appended
 entries_only a m n h = rw (ne_eqb n 0 (λ e. omega arith)) refl
 
 -- With a head there, none is written.
-pub no_head_of : (a : Armed) (x : OptionEntries) (m : List ℕ) (n : ℕ) → 5 ≤ n → told_bytes a x m n ≡ encode_elements (told m a x)
+pub no_head_of : (a : Armed) (x : Option ℕ) (m : List ℕ) (n : ℕ) → 5 ≤ n → told_bytes a x m n ≡ encode_elements (told m a x)
 unfolding told_bytes
 no_head_of a x m n h =
     ap₂ (λ (u v : List ℕ). u ++ v) (entries_only a m n h ∙ elements_entries (entries_armed m a)) (count_bytes_lem x)
     ∙ sym (elements_append (map entry (entries_armed m a)) (counted x))
 
-grow : (l₀ : List ℕ) (a : Armed) (x : OptionEntries) (m l : List ℕ) (n : ℕ) (es : List Element) → Holds l₀ l n es → n + length (told_bytes a x m n) ≤ length l
+grow : (l₀ : List ℕ) (a : Armed) (x : Option ℕ) (m l : List ℕ) (n : ℕ) (es : List Element) → Holds l₀ l n es → n + length (told_bytes a x m n) ≤ length l
     → Holds l₀ (sets l n (told_bytes a x m n)) (n + length (told_bytes a x m n)) (es ++ told m a x)
 grow l₀ a x m l n es h room =
     let new = told_bytes a x m n in
@@ -83,7 +82,7 @@ grow l₀ a x m l n es h room =
     }
 
 -- One call of the writer.
-appended_fine : (l₀ : List ℕ) (a : Armed) (x : OptionEntries) (m : List ℕ) (k : Kept) (es : List Element) → Fine l₀ k es → Fine l₀ (appends a x m k) (es ++ told m a x)
+appended_fine : (l₀ : List ℕ) (a : Armed) (x : Option ℕ) (m : List ℕ) (k : Kept) (es : List Element) → Fine l₀ k es → Fine l₀ (appends a x m k) (es ++ told m a x)
 unfolding append_of
 appended_fine l₀ a x m refused es h = tt
 appended_fine l₀ a x m (kept l n) es h = go (eqb (length m) 4096) (armed_in_range a) (leb (n + length (told_bytes a x m n)) (length l)) refl
@@ -96,7 +95,7 @@ appended_fine l₀ a x m (kept l n) es h = go (eqb (length m) 4096) (armed_in_ra
     go true true true q = grow l₀ a x m l n es h (leb-true (n + length (told_bytes a x m n)) (length l) q)
 
 -- The first call leaves the head alone.
-first : (m l : List ℕ) → Fine l (appends nothing_armed no_count m (kept l 0)) []
+first : (m l : List ℕ) → Fine l (appends nothing_armed None m (kept l 0)) []
 unfolding append_of told_bytes appended record_of encode_all encode_elements
 first m l = go (eqb (length m) 4096) (armed_in_range nothing_armed) (leb 5 (length l)) refl
   where
@@ -135,4 +134,4 @@ along l₀ ms (c ∷ cs) k es d h =
 
 -- The writer's calls over a list of driver calls.
 pub all_fine : (d : Driver) (l : List ℕ) (ms : ℕ → List ℕ) (cs : List Call) → Fine l (kept_all l ms (shown_from d cs)) (answered_from (shown_from d cs))
-all_fine d l ms cs = along l (λ i. ms (suc i)) cs (appends nothing_armed no_count (ms 0) (kept l 0)) [] d (first (ms 0) l)
+all_fine d l ms cs = along l (λ i. ms (suc i)) cs (appends nothing_armed None (ms 0) (kept l 0)) [] d (first (ms 0) l)

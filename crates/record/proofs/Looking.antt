@@ -5,14 +5,17 @@ use mathlib.Core.Bool.{true, false, ◌&&◌}
 use mathlib.Core.List.{List}
 use Prim.Native.Nat.{ℕ, ◌+◌, ◌*◌, ◌≤◌}
 use native.Mathlib.Omega.{arith}
-use lib.ListN.{length, get_or}
+use lib.ListN.{length, drop, get_or, length-drop}
 use lib.Dec.{eqb, leb}
 use borrow.Author.Tests.{eqb-true, leb-true}
 use Rattle.pool.proofs.Cases.{by_cases}
 use Rattle.record.specs.Reader.{look_setup, fields_fit, look_out, look_failed, look}
 use Rattle.record.specs.declared.look.OutHead.{OutHead}
 use Rattle.record.specs.declared.look.Look.{Look}
-use Rattle.record.specs.declared.look.Look.TheVariants.{Setup, Out, Failed, Bad, End}
+use Rattle.record.specs.declared.look.Look.TheVariants.{Setup, Out, Failed}
+use Rattle.record.specs.declared.refusal.Refusal.{Refusal}
+use Rattle.record.specs.declared.refusal.Refusal.TheVariants.{Field}
+use Rattle.std.specs.Prelude.{Option, Some, None, Result, Ok, Err}
 use Rattle.record.proofs.Both.{and_left, and_right}
 
 -- The fields of an OUT entry at the front.
@@ -29,12 +32,12 @@ pub record OutFits (l : List ℕ) : Type 0 where
   pub whole : 6 + get_or l 5 0 ≤ length l
 
 -- What a look is, by cases.
-pub data Seen (l : List ℕ) (y : Look) : Type 0 where
-  seen_end : length l ≡ 0 → y ≡ End → Seen l y
-  seen_bad : y ≡ Bad → Seen l y
-  seen_setup : get_or l 0 0 ≡ 0x53 → 10 ≤ length l → get_or l 1 0 ≤ 127 → y ≡ Setup (get_or l 1 0) (get_or l 8 0 + get_or l 9 0 * 256) → Seen l y
-  seen_out : OutFits l → y ≡ Out (head_at l) → Seen l y
-  seen_failed : get_or l 0 0 ≡ 0x58 → 5 ≤ length l → y ≡ Failed ((get_or l 1 0 + get_or l 2 0 * 256) + (get_or l 3 0 + get_or l 4 0 * 256) * 65536) → Seen l y
+pub data Seen (l : List ℕ) (y : Result (Option Look) Refusal) : Type 0 where
+  seen_end : length l ≡ 0 → y ≡ Ok None → Seen l y
+  seen_bad : y ≡ Err Field → Seen l y
+  seen_setup : get_or l 0 0 ≡ 0x53 → 10 ≤ length l → get_or l 1 0 ≤ 127 → y ≡ Ok (Some (Setup (get_or l 1 0) (get_or l 8 0 + get_or l 9 0 * 256))) → Seen l y
+  seen_out : OutFits l → y ≡ Ok (Some (Out (head_at l))) → Seen l y
+  seen_failed : get_or l 0 0 ≡ 0x58 → 5 ≤ length l → y ≡ Ok (Some (Failed ((get_or l 1 0 + get_or l 2 0 * 256) + (get_or l 3 0 + get_or l 4 0 * 256) * 65536))) → Seen l y
 
 fields : (l : List ℕ) → get_or l 0 0 ≡ 0x4F → fields_fit (get_or l 1 0) (get_or l 2 0) (get_or l 3 0) (get_or l 4 0) (get_or l 5 0) ≡ true → 6 + get_or l 5 0 ≤ length l → OutFits l
 unfolding fields_fit
@@ -94,7 +97,7 @@ seen l = by_cases (eqb (length l) 0)
     (λ (i : eqb (get_or l 0 0) 0x58 ≡ false). rw (e, k, j, i) (seen_bad refl)))))
 
 -- A SETUP has its ten bytes, an OUT packet its own.
-pub setup_inside : (l : List ℕ) (a w : ℕ) → look l ≡ Setup a w → 10 ≤ length l
+pub setup_inside : (l : List ℕ) (a w : ℕ) → look l ≡ Ok (Some (Setup a w)) → 10 ≤ length l
 setup_inside l a w e = go (seen l)
   where
     go : Seen l (look l) → 10 ≤ length l
@@ -104,7 +107,7 @@ setup_inside l a w e = go (seen l)
     go (seen_out h q) = absurd (let z : ◌≡◌ {A = ℕ} 0 1 = cc in omega arith)
     go (seen_failed k h q) = absurd (let z : ◌≡◌ {A = ℕ} 0 1 = cc in omega arith)
 
-pub out_inside : (l : List ℕ) (x : OutHead) → look l ≡ Out x → 6 + x.length ≤ length l
+pub out_inside : (l : List ℕ) (x : OutHead) → look l ≡ Ok (Some (Out x)) → 6 + x.length ≤ length l
 out_inside l x e = go (seen l)
   where
     go : Seen l (look l) → 6 + x.length ≤ length l
@@ -114,7 +117,7 @@ out_inside l x e = go (seen l)
     go (seen_failed k h q) = absurd (let z : ◌≡◌ {A = ℕ} 0 1 = cc in omega arith)
     go (seen_out h q) = let z : x ≡ head_at l = cc in let w = h.whole in let v : x.length ≡ get_or l 5 0 = ap (λ (y : OutHead). y.length) z in omega arith
 
-pub failed_inside : (l : List ℕ) (m : ℕ) → look l ≡ Failed m → 5 ≤ length l
+pub failed_inside : (l : List ℕ) (m : ℕ) → look l ≡ Ok (Some (Failed m)) → 5 ≤ length l
 failed_inside l m e = go (seen l)
   where
     go : Seen l (look l) → 5 ≤ length l
@@ -123,3 +126,13 @@ failed_inside l m e = go (seen l)
     go (seen_setup k h i q) = absurd (let z : ◌≡◌ {A = ℕ} 0 1 = cc in omega arith)
     go (seen_out h q) = absurd (let z : ◌≡◌ {A = ℕ} 0 1 = cc in omega arith)
     go (seen_failed k h q) = h
+
+-- The same at a position: an entry ends inside.
+pub setup_at : (s : List ℕ) (at a w : ℕ) → look (drop at s) ≡ Ok (Some (Setup a w)) → at + 10 ≤ length s
+setup_at s at a w e = omega (arith, setup_inside (drop at s) a w e, length-drop at s)
+
+pub out_at : (s : List ℕ) (at : ℕ) (x : OutHead) → look (drop at s) ≡ Ok (Some (Out x)) → at + (6 + x.length) ≤ length s
+out_at s at x e = omega (arith, out_inside (drop at s) x e, length-drop at s)
+
+pub failed_at : (s : List ℕ) (at m : ℕ) → look (drop at s) ≡ Ok (Some (Failed m)) → at + 5 ≤ length s
+failed_at s at m e = omega (arith, failed_inside (drop at s) m e, length-drop at s)

@@ -10,6 +10,9 @@ use Rattle.record.specs.Segments.{Element, entry, failed_entry}
 use Rattle.record.specs.Bytes.{flag_byte, encode, failed_bytes, encode_element, encode_elements}
 use Rattle.record.specs.Reader.{look}
 use Rattle.record.specs.declared.look.Look.TheVariants.{Failed}
+use Rattle.record.specs.declared.refusal.Refusal.{Refusal}
+use Rattle.std.specs.Prelude.{Option, Some, Result, Ok}
+use Rattle.record.specs.declared.look.Look.{Look}
 use Rattle.record.specs.Verdict.{version_number, Whole}
 use Rattle.record.proofs.Decoding.{see_failed}
 use Rattle.record.proofs.Verdicts.{encode_some, version_of}
@@ -45,7 +48,7 @@ same_out a e b v l a' e' b' v' l' p q h =
     (cc, k.1)
 
 same_failed : (n m : ℕ) (p q : List ℕ) → failed_bytes n ++ p ≡ failed_bytes m ++ q → (n ≡ m) × (p ≡ q)
-same_failed n m p q h = let e : Failed n ≡ Failed m = sym (see_failed n p) ∙ ap look h ∙ see_failed m q in (cc, cc)
+same_failed n m p q h = let e : ◌≡◌ {A = Result (Option Look) Refusal} (Ok (Some (Failed n))) (Ok (Some (Failed m))) = sym (see_failed n p) ∙ ap look h ∙ see_failed m q in (cc, cc)
 
 -- Two entries whose bytes are the first of the same.
 same_element : (m n : Element) (p q : List ℕ) → encode_element m ++ p ≡ encode_element n ++ q → (m ≡ n) × (p ≡ q)

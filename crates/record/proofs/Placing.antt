@@ -1,5 +1,6 @@
 -- The reader's automaton takes exactly the records of version 2, refuses where no grammatical end is possible, and counts the items that didn't fail.
 -- Version 1's automaton (`plain_reader`) serves each stretch between counts. Assumes nothing.
+use Rattle.std.specs.Prelude.{None, Option, Some}
 use mathlib.Core.Path.{◌≡◌, refl, sym, ap, ap₂, ◌∙◌, subst}
 use mathlib.Core.Logic.{◌⊎◌, inl, inr}
 use mathlib.Core.Bool.{Bool, true, false, cond, ◌&&◌, ◌||◌}
@@ -16,8 +17,6 @@ use Rattle.record.specs.Scan.{guard, feed, feed_all, starts, count_all, Ends, In
 use Rattle.record.specs.Place.{may_end, count_right, feed_element, run_on, run_after, lost, count_after, Place, Reach, at, refused, reach, step_element, feed_elements, start, ElementInRange, ElementsInRange}
 use Rattle.record.specs.declared.scan.Scan.{Scan}
 use Rattle.record.specs.declared.scan.Scan.TheVariants.{Between as between, AfterSetup as after_setup, InBulk as in_bulk, InControl as in_control_of}
-use Rattle.record.specs.declared.scan.OptionScan.{OptionScan}
-use Rattle.record.specs.declared.scan.OptionScan.TheVariants.{Some as some, None as none}
 use Rattle.record.proofs.Both.{absurd-eq, and_left, and_right}
 use Rattle.record.proofs.Automaton.{plain_reader, feed_append}
 
@@ -44,10 +43,10 @@ ranged_append (e ∷ a) b h k = (h.0, ranged_append a b h.1 k)
 
 -- ---- where items begin
 
-none_some : {A : Type 0} (s : Scan) → none ≡ some s → A
+none_some : {A : Type 0} (s : Scan) → None ≡ Some s → A
 none_some s q = absurd-eq (cc)
 
-some_same : (s s' : Scan) → some s ≡ some s' → s ≡ s'
+some_same : (s s' : Scan) → Some s ≡ Some s' → s ≡ s'
 some_same s s' q = cc
 
 zero_or_one : (s : Scan) (e : Entry) → (starts s e ≡ 0) ⊎ (starts s e ≡ 1)
@@ -63,10 +62,10 @@ zero_or_one (in_control_of a w q p t) (out a' e' b last l) = inl refl
 
 -- An entry that begins an item stands where a record may end, and is taken as at a record's start.
 record Begins (s s' : Scan) (e : Entry) : Type 0 where
-  ends : Ends (some s)
-  fresh : feed between e ≡ some s'
+  ends : Ends (Some s)
+  fresh : feed between e ≡ Some s'
 
-begins : (s s' : Scan) (e : Entry) → starts s e ≡ 1 → feed s e ≡ some s' → Begins s s' e
+begins : (s s' : Scan) (e : Entry) → starts s e ≡ 1 → feed s e ≡ Some s' → Begins s s' e
 begins between s' e z q = record { ends = tt; fresh = q }
 begins (after_setup a w) s' (setup a' lo hi) z q = record { ends = tt; fresh = q }
 begins (after_setup a w) s' (out a' e b last l) z q = by_cases (eqb e 0)
@@ -82,7 +81,7 @@ starts_between (setup a lo hi) = refl
 starts_between (out a e b last l) = refl
 
 -- A part's first entry begins an item.
-first_starts : (s : Scan) (q : Part) (e : Entry) (r : List Entry) → Ends (some s) → Fits q → part_entries q ≡ e ∷ r → starts s e ≡ 1
+first_starts : (s : Scan) (q : Part) (e : Entry) (r : List Entry) → Ends (Some s) → Fits q → part_entries q ≡ e ∷ r → starts s e ≡ 1
 first_starts between q e r h f k = starts_between e
 first_starts (after_setup a w) (control_part a' lo hi t) e r h f k = subst (λ (v : Entry). starts (after_setup a w) v ≡ 1) (head-eq_of_cons-eq k) refl
 first_starts (after_setup a w) (bulk_part a' n b [] l) e r h f k =
@@ -92,27 +91,27 @@ first_starts (after_setup a w) (bulk_part a' n b (x ∷ xs) l) e r h f k =
 first_starts (in_bulk a n v p t) q e r h f k = absurd h
 first_starts (in_control_of a w v p t) q e r h f k = absurd h
 
-count_nil : (o : OptionScan) → count_all o [] ≡ 0
-count_nil none = refl
-count_nil (some s) = refl
+count_nil : (o : Option Scan) → count_all o [] ≡ 0
+count_nil None = refl
+count_nil (Some s) = refl
 
-count_append : (o : OptionScan) (a b : List Entry) → count_all o (a ++ b) ≡ count_all o a + count_all (feed_all o a) b
+count_append : (o : Option Scan) (a b : List Entry) → count_all o (a ++ b) ≡ count_all o a + count_all (feed_all o a) b
 count_append o [] b = let z = count_nil o in omega arith
-count_append none (e ∷ a) b = stay b
+count_append None (e ∷ a) b = stay b
   where
-    stay : (b : List Entry) → 0 ≡ 0 + count_all none b
+    stay : (b : List Entry) → 0 ≡ 0 + count_all None b
     stay [] = refl
     stay (x ∷ b) = refl
-count_append (some s) (e ∷ a) b = let z = count_append (feed s e) a b in omega arith
+count_append (Some s) (e ∷ a) b = let z = count_append (feed s e) a b in omega arith
 
 -- The entries of the last item, along entries.
-runs : OptionScan → ℕ → List Entry → ℕ
+runs : Option Scan → ℕ → List Entry → ℕ
 runs o n [] = n
-runs none n (e ∷ es) = n
-runs (some s) n (e ∷ es) = runs (feed s e) (run_on (starts s e) n) es
+runs None n (e ∷ es) = n
+runs (Some s) n (e ∷ es) = runs (feed s e) (run_on (starts s e) n) es
 
 -- Where no item begins, the last one goes on.
-runs_on : (es : List Entry) (s s' : Scan) (n : ℕ) → feed_all (some s) es ≡ some s' → count_all (some s) es ≡ 0 → runs (some s) n es ≡ n + length es
+runs_on : (es : List Entry) (s s' : Scan) (n : ℕ) → feed_all (Some s) es ≡ Some s' → count_all (Some s) es ≡ 0 → runs (Some s) n es ≡ n + length es
 unfolding runs
 runs_on [] s s' n f c = omega arith
 runs_on (e ∷ es) s s' n f c = go (feed s e) refl (λ u g d. runs_on es u s' (suc n) g d)
@@ -120,34 +119,34 @@ runs_on (e ∷ es) s s' n f c = go (feed s e) refl (λ u g d. runs_on es u s' (s
     z : starts s e ≡ 0
     z = omega arith
 
-    go : (o : OptionScan) → feed s e ≡ o → ((u : Scan) → feed_all (some u) es ≡ some s' → count_all (some u) es ≡ 0 → runs (some u) (suc n) es ≡ suc n + length es)
+    go : (o : Option Scan) → feed s e ≡ o → ((u : Scan) → feed_all (Some u) es ≡ Some s' → count_all (Some u) es ≡ 0 → runs (Some u) (suc n) es ≡ suc n + length es)
         → runs (feed s e) (run_on (starts s e) n) es ≡ n + length (e ∷ es)
-    go none q ih = stuck es (subst (λ (v : OptionScan). feed_all v es ≡ some s') q f)
+    go None q ih = stuck es (subst (λ (v : Option Scan). feed_all v es ≡ Some s') q f)
       where
-        stuck : {A : Type 0} (r : List Entry) → feed_all none r ≡ some s' → A
+        stuck : {A : Type 0} (r : List Entry) → feed_all None r ≡ Some s' → A
         stuck [] k = none_some s' k
         stuck (x ∷ r) k = none_some s' k
-    go (some u) q ih =
-        let g : feed_all (some u) es ≡ some s' = subst (λ (v : OptionScan). feed_all v es ≡ some s') q f in
-        let d : count_all (some u) es ≡ 0 = let y = ap (λ (v : OptionScan). count_all v es) q in omega arith in
-        ap₂ (λ (v : OptionScan) (i : ℕ). runs v (run_on i n) es) q z ∙ ih u g d ∙ omega arith
+    go (Some u) q ih =
+        let g : feed_all (Some u) es ≡ Some s' = subst (λ (v : Option Scan). feed_all v es ≡ Some s') q f in
+        let d : count_all (Some u) es ≡ 0 = let y = ap (λ (v : Option Scan). count_all v es) q in omega arith in
+        ap₂ (λ (v : Option Scan) (i : ℕ). runs v (run_on i n) es) q z ∙ ih u g d ∙ omega arith
 
-runs_append : (a b : List Entry) (s s' : Scan) (n : ℕ) → feed_all (some s) a ≡ some s' → runs (some s) n (a ++ b) ≡ runs (some s') (runs (some s) n a) b
+runs_append : (a b : List Entry) (s s' : Scan) (n : ℕ) → feed_all (Some s) a ≡ Some s' → runs (Some s) n (a ++ b) ≡ runs (Some s') (runs (Some s) n a) b
 unfolding runs
-runs_append [] b s s' n f = ap (λ (v : Scan). runs (some v) n b) (some_same s s' f)
+runs_append [] b s s' n f = ap (λ (v : Scan). runs (Some v) n b) (some_same s s' f)
 runs_append (e ∷ a) b s s' n f = go (feed s e) refl (λ u g. runs_append a b u s' (run_on (starts s e) n) g)
   where
-    go : (o : OptionScan) → feed s e ≡ o
-        → ((u : Scan) → feed_all (some u) a ≡ some s' → runs (some u) (run_on (starts s e) n) (a ++ b) ≡ runs (some s') (runs (some u) (run_on (starts s e) n) a) b)
-        → runs (feed s e) (run_on (starts s e) n) (a ++ b) ≡ runs (some s') (runs (feed s e) (run_on (starts s e) n) a) b
-    go none q ih = stuck a (subst (λ (v : OptionScan). feed_all v a ≡ some s') q f)
+    go : (o : Option Scan) → feed s e ≡ o
+        → ((u : Scan) → feed_all (Some u) a ≡ Some s' → runs (Some u) (run_on (starts s e) n) (a ++ b) ≡ runs (Some s') (runs (Some u) (run_on (starts s e) n) a) b)
+        → runs (feed s e) (run_on (starts s e) n) (a ++ b) ≡ runs (Some s') (runs (feed s e) (run_on (starts s e) n) a) b
+    go None q ih = stuck a (subst (λ (v : Option Scan). feed_all v a ≡ Some s') q f)
       where
-        stuck : {A : Type 0} (r : List Entry) → feed_all none r ≡ some s' → A
+        stuck : {A : Type 0} (r : List Entry) → feed_all None r ≡ Some s' → A
         stuck [] k = none_some s' k
         stuck (x ∷ r) k = none_some s' k
-    go (some u) q ih =
-        let g : feed_all (some u) a ≡ some s' = subst (λ (v : OptionScan). feed_all v a ≡ some s') q f in
-        subst (λ (v : OptionScan). runs v (run_on (starts s e) n) (a ++ b) ≡ runs (some s') (runs v (run_on (starts s e) n) a) b) (sym q)
+    go (Some u) q ih =
+        let g : feed_all (Some u) a ≡ Some s' = subst (λ (v : Option Scan). feed_all v a ≡ Some s') q f in
+        subst (λ (v : Option Scan). runs v (run_on (starts s e) n) (a ++ b) ≡ runs (Some s') (runs v (run_on (starts s e) n) a) b) (sym q)
         (ih u g)
 
 -- ---- the last item of entries that were taken
@@ -163,31 +162,31 @@ record Last (es : List Entry) (s : Scan) (n : ℕ) : Type 0 where
   is : pre ++ ft ≡ es
   before : PlainReading pre
   ranged : AllInRange ft
-  alone : feed_all (some between) ft ≡ some s
-  single : count_all (some between) ft ≡ one n
+  alone : feed_all (Some between) ft ≡ Some s
+  single : count_all (Some between) ft ≡ one n
   long : length ft ≡ n
-  fed : feed_all (some between) es ≡ some s
-  counted : count_all (some between) es ≡ length before.parts + one n
+  fed : feed_all (Some between) es ≡ Some s
+  counted : count_all (Some between) es ≡ length before.parts + one n
 
 last_nil : Last [] between 0
 unfolding one
 last_nil = record { pre = []; ft = []; is = refl; before = record { parts = []; fit = tt; is = refl }; ranged = tt; alone = refl; single = refl; long = refl; fed = refl; counted = refl }
 
 -- All of it is whole where a record may end.
-whole_of : (es : List Entry) (s : Scan) (n : ℕ) → Last es s n → Ends (some s) → PlainReading es
+whole_of : (es : List Entry) (s : Scan) (n : ℕ) → Last es s n → Ends (Some s) → PlainReading es
 whole_of es s n k h = subst PlainReading k.is (join k.pre k.ft k.before (plain_reader.takes_only k.ft k.ranged (subst Ends (sym k.alone) h)))
 
-fed_on : (es : List Entry) (s s' : Scan) (e : Entry) → feed_all (some between) es ≡ some s → feed s e ≡ some s' → feed_all (some between) (es ++ (e ∷ [])) ≡ some s'
-fed_on es s s' e f q = feed_append (some between) es (e ∷ []) ∙ ap (λ (o : OptionScan). feed_all o (e ∷ [])) f ∙ q
+fed_on : (es : List Entry) (s s' : Scan) (e : Entry) → feed_all (Some between) es ≡ Some s → feed s e ≡ Some s' → feed_all (Some between) (es ++ (e ∷ [])) ≡ Some s'
+fed_on es s s' e f q = feed_append (Some between) es (e ∷ []) ∙ ap (λ (o : Option Scan). feed_all o (e ∷ [])) f ∙ q
 
-count_on : (es : List Entry) (s : Scan) (e : Entry) → feed_all (some between) es ≡ some s → count_all (some between) (es ++ (e ∷ [])) ≡ count_all (some between) es + starts s e
+count_on : (es : List Entry) (s : Scan) (e : Entry) → feed_all (Some between) es ≡ Some s → count_all (Some between) (es ++ (e ∷ [])) ≡ count_all (Some between) es + starts s e
 count_on es s e f =
-    let z = count_append (some between) es (e ∷ []) in
-    let y : count_all (feed_all (some between) es) (e ∷ []) ≡ starts s e + count_all (feed s e) [] = ap (λ (o : OptionScan). count_all o (e ∷ [])) f in
+    let z = count_append (Some between) es (e ∷ []) in
+    let y : count_all (feed_all (Some between) es) (e ∷ []) ≡ starts s e + count_all (feed s e) [] = ap (λ (o : Option Scan). count_all o (e ∷ [])) f in
     let x = count_nil (feed s e) in
     omega arith
 
-last_on : (es : List Entry) (s s' : Scan) (n : ℕ) (e : Entry) → Last es s n → InRange e → feed s e ≡ some s' → Last (es ++ (e ∷ [])) s' (run_on (starts s e) n)
+last_on : (es : List Entry) (s s' : Scan) (n : ℕ) (e : Entry) → Last es s n → InRange e → feed s e ≡ Some s' → Last (es ++ (e ∷ [])) s' (run_on (starts s e) n)
 unfolding one
 last_on es s s' n e k r q = go (zero_or_one s e)
   where
@@ -214,10 +213,10 @@ last_on es s s' n e k r q = go (zero_or_one s e)
         })
     go (inl z) = more n k.long k.single k.counted
       where
-        more : (n : ℕ) → length k.ft ≡ n → count_all (some between) k.ft ≡ one n → count_all (some between) es ≡ length k.before.parts + one n → Last (es ++ (e ∷ [])) s' (run_on (starts s e) n)
+        more : (n : ℕ) → length k.ft ≡ n → count_all (Some between) k.ft ≡ one n → count_all (Some between) es ≡ length k.before.parts + one n → Last (es ++ (e ∷ [])) s' (run_on (starts s e) n)
         more zero l u c = absurd (nothing k.ft l k.alone)
           where
-            nothing : (ft : List Entry) → length ft ≡ 0 → feed_all (some between) ft ≡ some s → ⊥
+            nothing : (ft : List Entry) → length ft ≡ 0 → feed_all (Some between) ft ≡ Some s → ⊥
             nothing [] l a = let y : starts between e ≡ 0 = subst (λ (v : Scan). starts v e ≡ 0) (sym (some_same between s a)) z in let x = starts_between e in omega arith
             nothing (x ∷ ft) l a = omega arith
         more (suc m) l u c =
@@ -266,10 +265,10 @@ none_first = record { part = bare; fits = (omega arith, (omega arith, omega arit
 abbrev one_part : (q : Part) → Fits q → PlainReading (part_entries q)
 one_part q f = record { parts = q ∷ []; fit = (f, tt); is = append-nil (part_entries q) }
 
-first_of : (ft : List Entry) (s : Scan) → AllInRange ft → feed_all (some between) ft ≡ some s → count_all (some between) ft ≡ 1 → FirstPart ft
+first_of : (ft : List Entry) (s : Scan) → AllInRange ft → feed_all (Some between) ft ≡ Some s → count_all (Some between) ft ≡ 1 → FirstPart ft
 first_of ft s h f c = let v = plain_reader.viable ft s h f in go v.0 v.1.parts v.1.fit v.1.is
   where
-    none_counted : (ft : List Entry) → [] ≡ ft → count_all (some between) ft ≡ 1 → ⊥
+    none_counted : (ft : List Entry) → [] ≡ ft → count_all (Some between) ft ≡ 1 → ⊥
     none_counted [] e z = omega arith
     none_counted (x ∷ ft) e z = absurd-eq (cc)
 
@@ -283,9 +282,9 @@ first_of ft s h f c = let v = plain_reader.viable ft s h f in go v.0 v.1.parts v
     two q (p ∷ qs) e z post u w k j =
         let a = plain_reader.counts (part_entries q) (one_part q u) in
         let t = plain_reader.takes_all (part_entries q) (one_part q u) in
-        let b = count_append (some between) (part_entries q) (e ∷ z) in
-        let d = ap (count_all (some between)) k in
-        let y = second (feed_all (some between) (part_entries q)) t in
+        let b = count_append (Some between) (part_entries q) (e ∷ z) in
+        let d = ap (count_all (Some between)) k in
+        let y = second (feed_all (Some between) (part_entries q)) t in
         omega arith
       where
         lead : (a b : List Entry) → a ++ b ≡ e ∷ (z ++ post) → ((r : List Entry) × (a ≡ e ∷ r)) ⊎ (a ≡ [])
@@ -297,13 +296,13 @@ first_of ft s h f c = let v = plain_reader.viable ft s h f in go v.0 v.1.parts v
         some_entry (bulk_part a n v (x ∷ xs) l) g = absurd-eq (cc)
         some_entry (control_part a lo hi t) g = absurd-eq (cc)
 
-        begun : (s : Scan) → Ends (some s) → ((r : List Entry) × (part_entries p ≡ e ∷ r)) ⊎ (part_entries p ≡ []) → starts s e ≡ 1
+        begun : (s : Scan) → Ends (Some s) → ((r : List Entry) × (part_entries p ≡ e ∷ r)) ⊎ (part_entries p ≡ []) → starts s e ≡ 1
         begun s t (inl g) = first_starts s p e g.0 t w.0 g.1
         begun s t (inr g) = absurd (some_entry p g)
 
-        second : (o : OptionScan) → Ends o → 1 ≤ count_all o (e ∷ z)
-        second none t = absurd t
-        second (some s) t = let y = begun s t (lead (part_entries p) (parts_entries qs) j) in omega arith
+        second : (o : Option Scan) → Ends o → 1 ≤ count_all o (e ∷ z)
+        second None t = absurd t
+        second (Some s) t = let y = begun s t (lead (part_entries p) (parts_entries qs) j) in omega arith
 
     go : (post : List Entry) (qs : List Part) → AllFit qs → parts_entries qs ≡ ft ++ post → FirstPart ft
     go post [] w q = absurd (none_counted ft (nil_left ft post q) c)
@@ -321,7 +320,7 @@ last_first es s n k = go n k.long k.single
     empty [] l = none_first
     empty (x ∷ ft) l = absurd (omega arith)
 
-    go : (n : ℕ) → length k.ft ≡ n → count_all (some between) k.ft ≡ one n → FirstPart k.ft
+    go : (n : ℕ) → length k.ft ≡ n → count_all (Some between) k.ft ≡ one n → FirstPart k.ft
     go zero l c = empty k.ft l
     go (suc m) l c = first_of k.ft s k.ranged k.alone c
 
@@ -337,7 +336,7 @@ record Come (ms : List Element) (p : Place) : Type 0 where
   es : List Entry
   is : up_to segments (map entry es) ≡ ms
   last : Last es p.scan p.run
-  counted : p.count ≡ unfailed_in segments + count_all (some between) es
+  counted : p.count ≡ unfailed_in segments + count_all (Some between) es
 
 up_append : (gs : List Segment) (a b : List Element) → up_to gs (a ++ b) ≡ up_to gs a ++ b
 up_append [] a b = refl
@@ -361,7 +360,7 @@ unfailed_join (x ∷ gs) g =
     let c = unfailed_join gs g in
     omega arith
 
-come_entry : (ms : List Element) (p : Place) (e : Entry) (s' : Scan) → Come ms p → InRange e → feed p.scan e ≡ some s'
+come_entry : (ms : List Element) (p : Place) (e : Entry) (s' : Scan) → Come ms p → InRange e → feed p.scan e ≡ Some s'
     → Come (ms ++ (entry e ∷ [])) (record { scan = s'; run = run_on (starts p.scan e) p.run; count = p.count + starts p.scan e })
 come_entry ms p e s' c h q = record {
   segments = c.segments;
@@ -391,13 +390,13 @@ close ms p m k g c f e l z = record {
   counted = let y = unfailed_join c.segments g in omega arith;
 }
 
-ends_may : (s : Scan) → may_end s ≡ true → Ends (some s)
+ends_may : (s : Scan) → may_end s ≡ true → Ends (Some s)
 ends_may between h = tt
 ends_may (after_setup a w) h = tt
 ends_may (in_bulk a e q p t) h = absurd-eq (cc)
 ends_may (in_control_of a w q p t) h = absurd-eq (cc)
 
-may_ends : (s : Scan) → Ends (some s) → may_end s ≡ true
+may_ends : (s : Scan) → Ends (Some s) → may_end s ≡ true
 may_ends between h = refl
 may_ends (after_setup a w) h = refl
 may_ends (in_bulk a e q p t) h = absurd h
@@ -436,11 +435,11 @@ come_failed ms p m c h = by_cases (eqb m p.run)
             close ms p (suc i) (lost (suc i) p.count) (record { whole = k.before.parts; first = k.ft }) c (k.before.fit, last_first c.es p.scan (suc i) k)
             (ap (λ (v : List Entry). v ++ k.ft) k.before.is ∙ k.is) k.long (let z = lost_suc i p.count in omega arith)
 
-guard_some : (b : Bool) (s s' : Scan) → guard b s ≡ some s' → (b ≡ true) × (s ≡ s')
+guard_some : (b : Bool) (s s' : Scan) → guard b s ≡ Some s' → (b ≡ true) × (s ≡ s')
 guard_some true s s' e = (refl, cc)
 guard_some false s s' e = absurd-eq (cc)
 
-come_element : (ms : List Element) (p : Place) (m : Element) (s' : Scan) → Come ms p → ElementInRange m → feed_element p.scan p.run m ≡ some s'
+come_element : (ms : List Element) (p : Place) (m : Element) (s' : Scan) → Come ms p → ElementInRange m → feed_element p.scan p.run m ≡ Some s'
     → Come (ms ++ (m ∷ [])) (record { scan = s'; run = run_after p.scan p.run m; count = count_after p.scan p.count m })
 come_element ms p (entry e) s' c h q = come_entry ms p e s' c h q
 come_element ms p (failed_entry m) s' c h q =
@@ -458,12 +457,12 @@ come_all : (post pre : List Element) (p q : Place) → Come pre p → ElementsIn
 come_all [] pre p q c h f = let e : p ≡ q = cc in subst (λ (v : List Element). Come v q) (sym (append-nil pre)) (subst (Come pre) e c)
 come_all (m ∷ post) pre p q c h f = go (feed_element p.scan p.run m) refl (λ n c' f'. come_all post (pre ++ (m ∷ [])) n q c' h.1 f')
   where
-    go : (o : OptionScan) → feed_element p.scan p.run m ≡ o → ((n : Place) → Come (pre ++ (m ∷ [])) n → feed_elements (at n) post ≡ at q → Come ((pre ++ (m ∷ [])) ++ post) q)
+    go : (o : Option Scan) → feed_element p.scan p.run m ≡ o → ((n : Place) → Come (pre ++ (m ∷ [])) n → feed_elements (at n) post ≡ at q → Come ((pre ++ (m ∷ [])) ++ post) q)
         → Come (pre ++ (m ∷ post)) q
-    go none z ih = not_at q (sym (refused_stays post) ∙ subst (λ (o : OptionScan). feed_elements (reach o (run_after p.scan p.run m) (count_after p.scan p.count m)) post ≡ at q) z f)
-    go (some s) z ih =
+    go None z ih = not_at q (sym (refused_stays post) ∙ subst (λ (o : Option Scan). feed_elements (reach o (run_after p.scan p.run m) (count_after p.scan p.count m)) post ≡ at q) z f)
+    go (Some s) z ih =
         let c' = come_element pre p m s c h.0 z in
-        let f' = subst (λ (o : OptionScan). feed_elements (reach o (run_after p.scan p.run m) (count_after p.scan p.count m)) post ≡ at q) z f in
+        let f' = subst (λ (o : Option Scan). feed_elements (reach o (run_after p.scan p.run m) (count_after p.scan p.count m)) post ≡ at q) z f in
         subst (λ (v : List Element). Come v q) (append_assoc pre (m ∷ []) post) (ih (record { scan = s; run = run_after p.scan p.run m; count = count_after p.scan p.count m }) c' f')
 
 come_start : Come [] start
@@ -477,46 +476,46 @@ feed_elements_append refused (m ∷ a) b = sym (refused_stays b)
 feed_elements_append (at p) (m ∷ a) b = feed_elements_append (step_element p m) a b
 
 -- Entries of version 1 at a place.
-seg : (es : List Entry) (p : Place) (s' : Scan) → feed_all (some p.scan) es ≡ some s'
-    → feed_elements (at p) (map entry es) ≡ at (record { scan = s'; run = runs (some p.scan) p.run es; count = p.count + count_all (some p.scan) es })
+seg : (es : List Entry) (p : Place) (s' : Scan) → feed_all (Some p.scan) es ≡ Some s'
+    → feed_elements (at p) (map entry es) ≡ at (record { scan = s'; run = runs (Some p.scan) p.run es; count = p.count + count_all (Some p.scan) es })
 unfolding runs
 seg [] p s' f = ap₂ (λ (s : Scan) (k : ℕ). at (record { scan = s; run = p.run; count = k })) (some_same p.scan s' f) (omega arith)
 seg (e ∷ es) p s' f = go (feed p.scan e) refl (λ n g. seg es n s' g)
   where
-    go : (o : OptionScan) → feed p.scan e ≡ o
-        → ((n : Place) → feed_all (some n.scan) es ≡ some s' → feed_elements (at n) (map entry es) ≡ at (record { scan = s'; run = runs (some n.scan) n.run es; count = n.count + count_all (some n.scan) es }))
+    go : (o : Option Scan) → feed p.scan e ≡ o
+        → ((n : Place) → feed_all (Some n.scan) es ≡ Some s' → feed_elements (at n) (map entry es) ≡ at (record { scan = s'; run = runs (Some n.scan) n.run es; count = n.count + count_all (Some n.scan) es }))
         → feed_elements (step_element p (entry e)) (map entry es) ≡ at (record { scan = s'; run = runs (feed p.scan e) (run_on (starts p.scan e) p.run) es; count = p.count + (starts p.scan e + count_all (feed p.scan e) es) })
-    go none z ih = stuck es (subst (λ (o : OptionScan). feed_all o es ≡ some s') z f)
+    go None z ih = stuck es (subst (λ (o : Option Scan). feed_all o es ≡ Some s') z f)
       where
-        stuck : {A : Type 0} (r : List Entry) → feed_all none r ≡ some s' → A
+        stuck : {A : Type 0} (r : List Entry) → feed_all None r ≡ Some s' → A
         stuck [] k = none_some s' k
         stuck (x ∷ r) k = none_some s' k
-    go (some u) z ih =
+    go (Some u) z ih =
         let n : Place = record { scan = u; run = run_on (starts p.scan e) p.run; count = p.count + starts p.scan e } in
-        let k = ih n (subst (λ (o : OptionScan). feed_all o es ≡ some s') z f) in
-        subst (λ (o : OptionScan). feed_elements (reach o (run_on (starts p.scan e) p.run) (p.count + starts p.scan e)) (map entry es)
+        let k = ih n (subst (λ (o : Option Scan). feed_all o es ≡ Some s') z f) in
+        subst (λ (o : Option Scan). feed_elements (reach o (run_on (starts p.scan e) p.run) (p.count + starts p.scan e)) (map entry es)
         ≡ at (record { scan = s'; run = runs o (run_on (starts p.scan e) p.run) es; count = p.count + (starts p.scan e + count_all o es) })) (sym z)
-        (k ∙ ap (λ (k : ℕ). at (record { scan = s'; run = runs (some u) (run_on (starts p.scan e) p.run) es; count = k })) (omega arith))
+        (k ∙ ap (λ (k : ℕ). at (record { scan = s'; run = runs (Some u) (run_on (starts p.scan e) p.run) es; count = k })) (omega arith))
 
 -- A prefix of what is taken is taken.
-prefix_fed : (a b : List Entry) → Ends (feed_all (some between) (a ++ b)) → (s : Scan) × (feed_all (some between) a ≡ some s)
-prefix_fed a b h = go (feed_all (some between) a) refl (subst Ends (feed_append (some between) a b) h)
+prefix_fed : (a b : List Entry) → Ends (feed_all (Some between) (a ++ b)) → (s : Scan) × (feed_all (Some between) a ≡ Some s)
+prefix_fed a b h = go (feed_all (Some between) a) refl (subst Ends (feed_append (Some between) a b) h)
   where
-    go : (o : OptionScan) → feed_all (some between) a ≡ o → Ends (feed_all (feed_all (some between) a) b) → (s : Scan) × (feed_all (some between) a ≡ some s)
-    go none q k = absurd (stays b (subst (λ (o : OptionScan). Ends (feed_all o b)) q k))
+    go : (o : Option Scan) → feed_all (Some between) a ≡ o → Ends (feed_all (feed_all (Some between) a) b) → (s : Scan) × (feed_all (Some between) a ≡ Some s)
+    go None q k = absurd (stays b (subst (λ (o : Option Scan). Ends (feed_all o b)) q k))
       where
-        stays : (b : List Entry) → Ends (feed_all none b) → ⊥
+        stays : (b : List Entry) → Ends (feed_all None b) → ⊥
         stays [] h = h
         stays (x ∷ b) h = h
-    go (some s) q k = (s, q)
+    go (Some s) q k = (s, q)
 
 -- A segment's entries: the state that they lead to, the entries of the last item, and the items begun.
 record Taken (g : Segment) : Type 0 where
   scan : Scan
-  fed : feed_all (some between) (parts_entries g.whole ++ g.first) ≡ some scan
-  right : count_right scan (runs (some between) 0 (parts_entries g.whole ++ g.first)) (length g.first) ≡ true
-  counted : lost (length g.first) (count_all (some between) (parts_entries g.whole ++ g.first)) ≡ length g.whole
-  some_count : count_all (some between) (parts_entries g.whole ++ g.first) ≡ length g.whole + one (length g.first)
+  fed : feed_all (Some between) (parts_entries g.whole ++ g.first) ≡ Some scan
+  right : count_right scan (runs (Some between) 0 (parts_entries g.whole ++ g.first)) (length g.first) ≡ true
+  counted : lost (length g.first) (count_all (Some between) (parts_entries g.whole ++ g.first)) ≡ length g.whole
+  some_count : count_all (Some between) (parts_entries g.whole ++ g.first) ≡ length g.whole + one (length g.first)
 
 or_left : (a b : Bool) → a ≡ true → (a || b) ≡ true
 or_left true b h = refl
@@ -532,13 +531,13 @@ taken ps [] f k =
     let r : PlainReading (parts_entries ps ++ []) = record { parts = ps; fit = f; is = sym (append-nil (parts_entries ps)) } in
     let es = parts_entries ps ++ [] in
     let t = plain_reader.takes_all es r in
-    let u = prefix_fed es [] (subst (λ (v : List Entry). Ends (feed_all (some between) v)) (sym (append-nil es)) t) in
+    let u = prefix_fed es [] (subst (λ (v : List Entry). Ends (feed_all (Some between) v)) (sym (append-nil es)) t) in
     let c = plain_reader.counts es r in
-    let e : Ends (some u.0) = subst Ends u.1 t in
+    let e : Ends (Some u.0) = subst Ends u.1 t in
     record {
       scan = u.0;
       fed = u.1;
-      right = or_right (eqb 0 (runs (some between) 0 es)) (may_end u.0) (may_ends u.0 e);
+      right = or_right (eqb 0 (runs (Some between) 0 es)) (may_end u.0) (may_ends u.0 e);
       counted = c;
       some_count = omega arith;
     }
@@ -548,43 +547,43 @@ taken ps (e ∷ t) f k =
     let w = join (parts_entries ps) (part_entries k.part) r (one_part k.part k.fits) in
     let x : es ++ k.rest ≡ parts_entries ps ++ part_entries k.part = append_assoc (parts_entries ps) (e ∷ t) k.rest ∙ ap (λ (v : List Entry). parts_entries ps ++ v) k.is in
     let ends = plain_reader.takes_all (parts_entries ps ++ part_entries k.part) w in
-    let u = prefix_fed es k.rest (subst (λ (v : List Entry). Ends (feed_all (some between) v)) (sym x) ends) in
-    let p = prefix_fed (parts_entries ps) [] (subst (λ (v : List Entry). Ends (feed_all (some between) v)) (sym (append-nil (parts_entries ps))) (plain_reader.takes_all (parts_entries ps) r)) in
+    let u = prefix_fed es k.rest (subst (λ (v : List Entry). Ends (feed_all (Some between) v)) (sym x) ends) in
+    let p = prefix_fed (parts_entries ps) [] (subst (λ (v : List Entry). Ends (feed_all (Some between) v)) (sym (append-nil (parts_entries ps))) (plain_reader.takes_all (parts_entries ps) r)) in
     let s₀ = p.0 in
-    let ends₀ : Ends (some s₀) = subst Ends p.1 (plain_reader.takes_all (parts_entries ps) r) in
+    let ends₀ : Ends (Some s₀) = subst Ends p.1 (plain_reader.takes_all (parts_entries ps) r) in
     let st : starts s₀ e ≡ 1 = first_starts s₀ k.part e (t ++ k.rest) ends₀ k.fits (sym k.is) in
     -- counts: all of it, the whole transfers, and what is left for t
     let c₀ = plain_reader.counts (parts_entries ps) r in
     let c₁ = plain_reader.counts (parts_entries ps ++ part_entries k.part) w in
     let l₁ = length-append ps (k.part ∷ []) in
-    let a₁ = count_append (some between) (parts_entries ps) (part_entries k.part) in
-    let b₁ : count_all (feed_all (some between) (parts_entries ps)) (part_entries k.part) ≡ count_all (some s₀) (e ∷ (t ++ k.rest)) =
+    let a₁ = count_append (Some between) (parts_entries ps) (part_entries k.part) in
+    let b₁ : count_all (feed_all (Some between) (parts_entries ps)) (part_entries k.part) ≡ count_all (Some s₀) (e ∷ (t ++ k.rest)) =
     ap₂ count_all p.1 (sym k.is) in
     let d₁ = count_append (feed s₀ e) t k.rest in
     let z : count_all (feed s₀ e) t ≡ 0 = omega arith in
-    let fd : feed_all (some s₀) (e ∷ t) ≡ some u.0 = sym (ap (λ (o : OptionScan). feed_all o (e ∷ t)) p.1) ∙ sym (feed_append (some between) (parts_entries ps) (e ∷ t)) ∙ u.1 in
-    let run : runs (some between) 0 es ≡ suc (length t) =
-    runs_append (parts_entries ps) (e ∷ t) between s₀ 0 p.1 ∙ go (feed s₀ e) s₀ refl st fd z (runs (some between) 0 (parts_entries ps)) in
-    let a₂ = count_append (some between) (parts_entries ps) (e ∷ t) in
-    let b₂ : count_all (feed_all (some between) (parts_entries ps)) (e ∷ t) ≡ starts s₀ e + count_all (feed s₀ e) t = ap (λ (o : OptionScan). count_all o (e ∷ t)) p.1 in
+    let fd : feed_all (Some s₀) (e ∷ t) ≡ Some u.0 = sym (ap (λ (o : Option Scan). feed_all o (e ∷ t)) p.1) ∙ sym (feed_append (Some between) (parts_entries ps) (e ∷ t)) ∙ u.1 in
+    let run : runs (Some between) 0 es ≡ suc (length t) =
+    runs_append (parts_entries ps) (e ∷ t) between s₀ 0 p.1 ∙ go (feed s₀ e) s₀ refl st fd z (runs (Some between) 0 (parts_entries ps)) in
+    let a₂ = count_append (Some between) (parts_entries ps) (e ∷ t) in
+    let b₂ : count_all (feed_all (Some between) (parts_entries ps)) (e ∷ t) ≡ starts s₀ e + count_all (feed s₀ e) t = ap (λ (o : Option Scan). count_all o (e ∷ t)) p.1 in
     record {
       scan = u.0;
       fed = u.1;
-      right = or_left (eqb (suc (length t)) (runs (some between) 0 es)) (eqb (suc (length t)) 0 && may_end u.0) (eq-eqb (suc (length t)) (runs (some between) 0 es) (sym run));
-      counted = let y = lost_suc (length t) (count_all (some between) es) in omega arith;
+      right = or_left (eqb (suc (length t)) (runs (Some between) 0 es)) (eqb (suc (length t)) 0 && may_end u.0) (eq-eqb (suc (length t)) (runs (Some between) 0 es) (sym run));
+      counted = let y = lost_suc (length t) (count_all (Some between) es) in omega arith;
       some_count = omega arith;
     }
   where
-    go : (o : OptionScan) (s₀ : Scan) → feed s₀ e ≡ o → starts s₀ e ≡ 1 → {s' : Scan} → feed_all (some s₀) (e ∷ t) ≡ some s' → count_all (feed s₀ e) t ≡ 0 → (n : ℕ) → runs (some s₀) n (e ∷ t) ≡ suc (length t)
-    go none s₀ q st {s'} fd z n = stuck t (subst (λ (o : OptionScan). feed_all o t ≡ some s') q fd)
+    go : (o : Option Scan) (s₀ : Scan) → feed s₀ e ≡ o → starts s₀ e ≡ 1 → {s' : Scan} → feed_all (Some s₀) (e ∷ t) ≡ Some s' → count_all (feed s₀ e) t ≡ 0 → (n : ℕ) → runs (Some s₀) n (e ∷ t) ≡ suc (length t)
+    go None s₀ q st {s'} fd z n = stuck t (subst (λ (o : Option Scan). feed_all o t ≡ Some s') q fd)
       where
-        stuck : {A : Type 0} (r : List Entry) → feed_all none r ≡ some s' → A
+        stuck : {A : Type 0} (r : List Entry) → feed_all None r ≡ Some s' → A
         stuck [] k = none_some s' k
         stuck (x ∷ r) k = none_some s' k
-    go (some v) s₀ q st {s'} fd z n =
-        let g : feed_all (some v) t ≡ some s' = subst (λ (o : OptionScan). feed_all o t ≡ some s') q fd in
-        let d : count_all (some v) t ≡ 0 = subst (λ (o : OptionScan). count_all o t ≡ 0) q z in
-        ap₂ (λ (o : OptionScan) (i : ℕ). runs o (run_on i n) t) q st ∙ runs_on t v s' 1 g d ∙ omega arith
+    go (Some v) s₀ q st {s'} fd z n =
+        let g : feed_all (Some v) t ≡ Some s' = subst (λ (o : Option Scan). feed_all o t ≡ Some s') q fd in
+        let d : count_all (Some v) t ≡ 0 = subst (λ (o : Option Scan). count_all o t ≡ 0) q z in
+        ap₂ (λ (o : Option Scan) (i : ℕ). runs o (run_on i n) t) q st ∙ runs_on t v s' 1 g d ∙ omega arith
 
 step_failed : (p : Place) (m : ℕ) → count_right p.scan p.run m ≡ true → step_element p (failed_entry m) ≡ at (record { scan = between; run = 0; count = lost m p.count })
 step_failed p m h = ap (λ (b : Bool). reach (guard b between) 0 (lost m p.count)) h
@@ -593,7 +592,7 @@ step_failed p m h = ap (λ (b : Bool). reach (guard b between) 0 (lost m p.count
 record Takes (k : ℕ) (ms : List Element) (n : ℕ) : Type 0 where
   place : Place
   reached : feed_elements (at (record { scan = between; run = 0; count = k })) ms ≡ at place
-  ends : Ends (some place.scan)
+  ends : Ends (Some place.scan)
   counted : place.count ≡ k + n
 
 lost_add : (m k a b : ℕ) → lost m a ≡ b → a ≡ b + one m → lost m (k + a) ≡ k + b
@@ -605,10 +604,10 @@ takes : (gs : List Segment) (ps : List Part) (k : ℕ) → SegmentsFit gs → Al
 takes [] ps k f g =
     let r : PlainReading (parts_entries ps) = record { parts = ps; fit = g; is = refl } in
     let t = plain_reader.takes_all (parts_entries ps) r in
-    let u = prefix_fed (parts_entries ps) [] (subst (λ (v : List Entry). Ends (feed_all (some between) v)) (sym (append-nil (parts_entries ps))) t) in
+    let u = prefix_fed (parts_entries ps) [] (subst (λ (v : List Entry). Ends (feed_all (Some between) v)) (sym (append-nil (parts_entries ps))) t) in
     let p : Place = record { scan = between; run = 0; count = k } in
     record {
-      place = record { scan = u.0; run = runs (some between) 0 (parts_entries ps); count = k + count_all (some between) (parts_entries ps) };
+      place = record { scan = u.0; run = runs (Some between) 0 (parts_entries ps); count = k + count_all (Some between) (parts_entries ps) };
       reached = seg (parts_entries ps) p u.0 u.1;
       ends = subst Ends u.1 t;
       counted = ap (λ (n : ℕ). k + n) (plain_reader.counts (parts_entries ps) r);
@@ -617,9 +616,9 @@ takes (g ∷ gs) ps k f h =
     let t = taken g.whole g.first f.0.0 f.0.1 in
     let es = parts_entries g.whole ++ g.first in
     let p : Place = record { scan = between; run = 0; count = k } in
-    let q : Place = record { scan = t.scan; run = runs (some between) 0 es; count = k + count_all (some between) es } in
+    let q : Place = record { scan = t.scan; run = runs (Some between) 0 es; count = k + count_all (Some between) es } in
     let m = length g.first in
-    let c : lost m q.count ≡ k + length g.whole = lost_add m k (count_all (some between) es) (length g.whole) t.counted t.some_count in
+    let c : lost m q.count ≡ k + length g.whole = lost_add m k (count_all (Some between) es) (length g.whole) t.counted t.some_count in
     let ih = takes gs ps (k + length g.whole) f.1 h in
     let l = length-append g.whole (unfailed gs ps) in
     let z = ih.counted in
@@ -637,18 +636,18 @@ takes (g ∷ gs) ps k f h =
 
 -- The automaton takes exactly the records of version 2; an entry that it does not take has no grammatical end after it; every other prefix has one; it counts the transfers that didn't fail.
 pub record Reader : Type 0 where
-  pub takes_all : (r : List Element) (k : Reading r) → (p : Place) × (feed_elements (at start) r ≡ at p) × Ends (some p.scan) × (p.count ≡ length (unfailed k.segments k.last))
-  pub takes_only : (r : List Element) (p : Place) → ElementsInRange r → feed_elements (at start) r ≡ at p → Ends (some p.scan) → Reading r
+  pub takes_all : (r : List Element) (k : Reading r) → (p : Place) × (feed_elements (at start) r ≡ at p) × Ends (Some p.scan) × (p.count ≡ length (unfailed k.segments k.last))
+  pub takes_only : (r : List Element) (p : Place) → ElementsInRange r → feed_elements (at start) r ≡ at p → Ends (Some p.scan) → Reading r
   pub refuses : (pre post : List Element) → feed_elements (at start) pre ≡ refused → Reading (pre ++ post) → ⊥
   pub viable : (pre : List Element) (p : Place) → ElementsInRange pre → feed_elements (at start) pre ≡ at p → (post : List Entry) × Reading (pre ++ map entry post)
 
-all_taken : (r : List Element) (k : Reading r) → (p : Place) × (feed_elements (at start) r ≡ at p) × Ends (some p.scan) × (p.count ≡ length (unfailed k.segments k.last))
+all_taken : (r : List Element) (k : Reading r) → (p : Place) × (feed_elements (at start) r ≡ at p) × Ends (Some p.scan) × (p.count ≡ length (unfailed k.segments k.last))
 all_taken r k =
     let t = takes k.segments k.last 0 k.segments_fit k.last_fit in
     let c = t.counted in
     (t.place, ap (feed_elements (at start)) (sym k.is) ∙ t.reached, t.ends, omega arith)
 
-only_taken : (r : List Element) (p : Place) → ElementsInRange r → feed_elements (at start) r ≡ at p → Ends (some p.scan) → Reading r
+only_taken : (r : List Element) (p : Place) → ElementsInRange r → feed_elements (at start) r ≡ at p → Ends (Some p.scan) → Reading r
 only_taken r p h f e =
     let c = come_all r [] start p come_start h f in
     let w = whole_of c.es p.scan p.run c.last e in

@@ -1,18 +1,23 @@
 -- Laws of the stores into a record: one after another, and the bytes that stay.
 -- Assumes nothing.
-use mathlib.Core.Path.{◌≡◌, refl, ap, ap₂, sym, ◌∙◌, subst}
+use mathlib.Core.Path.{◌≡◌, refl, ap, ap₂, sym, ◌∙◌}
 use mathlib.Core.List.{List, [], ◌∷◌, ◌++◌}
-use Prim.Native.Nat.{ℕ, ◌+◌, ◌*◌, ◌/◌, ◌%◌, ◌<◌}
+use Prim.Native.Nat.{ℕ, ◌+◌, ◌-◌, ◌*◌, ◌/◌, ◌%◌, ◌<◌, ◌≤◌}
 use native.Mathlib.Nat.{add-zero}
 use native.Mathlib.Omega.{arith}
 use lib.ListN.{length, length-append}
 use lib.Seq.{sets, length-sets}
-use Rattle.pool.proofs.Stores.{sets_append}
+use borrow.Rule.Slice.PartMut.{put_mid}
+use Rattle.pool.proofs.Stores.{put_sets, sets_append}
 use Rattle.record.specs.Bytes.{failed_bytes}
 use Rattle.record.specs.Writer.{Put}
 
 pub nothing : (l : List ℕ) (at : ℕ) → Put l at [] l at
 nothing l at = record { bytes = refl; next = sym (add-zero at) }
+
+-- A part of the bytes took those of another slice.
+pub stored : (l part part' : List ℕ) (at : ℕ) → part' ≡ part → at + length part ≤ length l → Put l at part (put_mid at (at + length part - at) l part') (at + length part)
+stored l part part' at e h = record { bytes = ap (put_mid at (at + length part - at) l) e ∙ put_sets at (at + length part - at) l part (omega arith) (omega arith); next = refl }
 
 -- Bytes, and others after them.
 pub then : {l l₁ l₂ : List ℕ} {at at₁ at₂ : ℕ} {a b : List ℕ} → Put l at a l₁ at₁ → Put l₁ at₁ b l₂ at₂ → Put l at (a ++ b) l₂ at₂
@@ -40,6 +45,3 @@ count_halves_lem n =
 
     below : (q r : ℕ) → r < 256 → (q * 256 + r) % 256 ≡ r
     below q r h = omega arith
-
-pub put_count : {l l' : List ℕ} {at at' : ℕ} (n : ℕ) → Put l at (count_halves n) l' at' → Put l at (failed_bytes n) l' at'
-put_count {l} {l'} {at} {at'} n p = subst (λ (b : List ℕ). Put l at b l' at') (sym (count_halves_lem n)) p

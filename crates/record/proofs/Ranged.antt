@@ -1,24 +1,22 @@
 -- The fields of what begin and step answer that they armed lie in their ranges.
 -- Assumes nothing.
+use Rattle.std.specs.Prelude.{None, Option, Some}
 use mathlib.Core.Path.{◌≡◌, refl}
 use mathlib.Core.Bool.{Bool, true, false}
 use mathlib.Core.List.{List}
 use Prim.Native.Nat.{ℕ, ◌≤◌}
 use borrow.Author.Tests.{le-leb}
-use Rattle.cutting.specs.declared.packetiser.OptionArm.{OptionArm}
-use Rattle.cutting.specs.declared.packetiser.OptionArm.TheVariants.{Some, None}
 use Rattle.cutting.specs.declared.packetiser.OutCounters.{OutCounters}
 use Rattle.cutting.specs.Counters.{out_next}
 use Rattle.cutting.proofs.Next.{out_fits}
 use Rattle.transfers.specs.declared.answers.ArmedSetup.{ArmedSetup}
-use Rattle.transfers.specs.declared.answers.OptionSetup.TheVariants.{Some as some_setup}
-use Rattle.transfers.specs.declared.answers.OptionOut.TheVariants.{None as no_out}
 use Rattle.transfers.specs.Arming.{may_arm, out_armed, out_arm_if, out_arm, out_arm_two}
 use Rattle.transfers.specs.Answers.{nothing_armed, out_of, outs_armed}
 use Rattle.record.specs.Writer.{out_in_range, armed_in_range}
+use Rattle.cutting.specs.declared.packetiser.Arm.{Arm}
 
 -- A packet of at most 64 bytes, or none.
-abbrev pub Small : OptionArm → Type 0
+abbrev pub Small : Option Arm → Type 0
 Small None = Unit {0}
 Small (Some a) = a.length ≤ 64
 
@@ -26,7 +24,7 @@ one_small : (w : ℕ) (c : OutCounters) (k : ℕ) (buf m : List ℕ) → Small (
 unfolding out_arm
 one_small w c k buf m = go (may_arm w k c.slot)
   where
-    armed : (a : OptionArm) → (out_next c).arm ≡ a → Small (out_armed a (out_next c).rest k c.offset buf m).arm
+    armed : (a : Option Arm) → (out_next c).arm ≡ a → Small (out_armed a (out_next c).rest k c.offset buf m).arm
     armed None e = tt
     armed (Some a) e = (out_fits c a e).small
 
@@ -42,14 +40,14 @@ pub none_ranged : armed_in_range nothing_armed ≡ true
 unfolding armed_in_range
 none_ranged = refl
 
-out_ranged : (x y : ℕ) (a : OptionArm) → x ≤ 127 → y ≤ 15 → Small a → out_in_range (out_of x y a) ≡ true
+out_ranged : (x y : ℕ) (a : Option Arm) → x ≤ 127 → y ≤ 15 → Small a → out_in_range (out_of x y a) ≡ true
 out_ranged x y None h k s = refl
 out_ranged x y (Some a) h k s = rw (le-leb x 127 h, le-leb y 15 k, le-leb a.length 64 s)
 
-pub outs_ranged : (x y : ℕ) (a b : OptionArm) → x ≤ 127 → y ≤ 15 → Small a × Small b → armed_in_range (outs_armed x y a b) ≡ true
+pub outs_ranged : (x y : ℕ) (a b : Option Arm) → x ≤ 127 → y ≤ 15 → Small a × Small b → armed_in_range (outs_armed x y a b) ≡ true
 unfolding armed_in_range
 outs_ranged x y a b h k s = rw (out_ranged x y a h k s.0, out_ranged x y b h k s.1)
 
-pub setup_ranged : (s : ArmedSetup) → s.address ≤ 127 → armed_in_range (record { setup = some_setup s; first = no_out; second = no_out }) ≡ true
+pub setup_ranged : (s : ArmedSetup) → s.address ≤ 127 → armed_in_range (record { setup = Some s; first = None; second = None }) ≡ true
 unfolding armed_in_range
 setup_ranged s h = rw (le-leb s.address 127 h)

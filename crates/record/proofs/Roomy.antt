@@ -1,5 +1,6 @@
 -- With room for the record and whole packet memories the writer is refused nowhere.
 -- Assumes nothing.
+use Rattle.std.specs.Prelude.{None, Option}
 use mathlib.Core.Path.{◌≡◌, ap, sym, subst, ◌∙◌}
 use mathlib.Core.Bool.{true}
 use mathlib.Core.List.{List, [], ◌∷◌, ◌++◌, map, append_assoc}
@@ -10,11 +11,8 @@ use lib.ListN.{length, length-append, length-drop}
 use lib.Seq.{sets, length-sets}
 use borrow.Author.Tests.{le-leb, eq-eqb}
 use Rattle.transfers.specs.declared.answers.Armed.{Armed}
-use Rattle.transfers.specs.declared.answers.OptionEntries.{OptionEntries}
-use Rattle.transfers.specs.declared.answers.OptionEntries.TheVariants.{None as no_count}
 use Rattle.transfers.specs.declared.driver.DeskRule.{DeskRule}
 use Rattle.transfers.specs.declared.driver.Driver.{Driver}
-use Rattle.transfers.specs.declared.driver.Transfer.{Transfer}
 use Rattle.transfers.specs.declared.wire.Direction.TheVariants.{In, Out}
 use Rattle.transfers.specs.Answers.{nothing_armed}
 use Rattle.transfers.specs.Driver.{fresh}
@@ -33,9 +31,10 @@ use Rattle.record.proofs.Encoding.{elements_append}
 use Rattle.record.proofs.Keeping.{told, no_head_of}
 use Rattle.record.proofs.Answered.{AllRanged, all_ranged}
 use Rattle.record.proofs.Ranged.{none_ranged}
+use Rattle.transfers.specs.declared.driver.Run.{Run}
 
 -- A call of the writer with room.
-fits : (a : Armed) (x : OptionEntries) (m l : List ℕ) (n : ℕ) → length m ≡ 4096 → armed_in_range a ≡ true → n + length (told_bytes a x m n) ≤ length l
+fits : (a : Armed) (x : Option ℕ) (m l : List ℕ) (n : ℕ) → length m ≡ 4096 → armed_in_range a ≡ true → n + length (told_bytes a x m n) ≤ length l
     → appends a x m (kept l n) ≡ kept (sets l n (told_bytes a x m n)) (n + length (told_bytes a x m n))
 unfolding append_of
 fits a x m l n hm ha h = rw (eq-eqb (length m) 4096 hm, ha, le-leb (n + length (told_bytes a x m n)) (length l) h)
@@ -46,7 +45,7 @@ Room refused r = ⊥
 Room (kept l n) r = (5 ≤ n) × (n + r ≤ length l)
 
 -- One call of the writer.
-append_room : (a : Armed) (x : OptionEntries) (m : List ℕ) (k : Kept) (r : ℕ) → length m ≡ 4096 → armed_in_range a ≡ true → Room k (length (encode_elements (told m a x)) + r) → Room (appends a x m k) r
+append_room : (a : Armed) (x : Option ℕ) (m : List ℕ) (k : Kept) (r : ℕ) → length m ≡ 4096 → armed_in_range a ≡ true → Room k (length (encode_elements (told m a x)) + r) → Room (appends a x m k) r
 append_room a x m refused r hm ha h = h
 append_room a x m (kept l n) r hm ha h =
     let w = no_head_of a x m n h.0 in
@@ -58,7 +57,7 @@ append_room a x m (kept l n) r hm ha h =
 slots_length : (m m' : List ℕ) → SlotsOnly m m' → length m ≡ 4096 → length m' ≡ 4096
 slots_length m m' s e = let q = ap length s.above in omega (arith, q, length-drop 0x200 m, length-drop 0x200 m')
 
-begin_slots : (t : Transfer) (x : Begin) (buf m log : List ℕ) → SlotsOnly m (beginning t x buf m log).memory
+begin_slots : (t : Option Run) (x : Begin) (buf m log : List ℕ) → SlotsOnly m (beginning t x buf m log).memory
 begin_slots t (control_begin a x p s ph) buf m log = begin_control_slots t a x p s ph buf m log
 begin_slots t (bulk_begin In a e p k b) buf m log = begin_bulk_in_slots t a e p k b buf m log
 begin_slots t (bulk_begin Out a e p k b) buf m log = begin_bulk_out_slots t a e p k b buf m log
@@ -96,9 +95,9 @@ along ms hm (c ∷ cs) d k lent a h =
     (one_room (ms 0) (hm 0) c d k (length (encode_elements rest)) lent.0 a.0 (subst (λ (r : ℕ). Room k r) e h))
 
 -- The first call of the writer.
-head_room : (m l : List ℕ) (r : ℕ) → length m ≡ 4096 → 5 + r ≤ length l → Room (appends nothing_armed no_count m (kept l 0)) r
+head_room : (m l : List ℕ) (r : ℕ) → length m ≡ 4096 → 5 + r ≤ length l → Room (appends nothing_armed None m (kept l 0)) r
 unfolding told_bytes appended encode_all
-head_room m l r hm h = subst (λ (k : Kept). Room k r) (sym (fits nothing_armed no_count m l 0 hm none_ranged (omega (arith, h)))) (omega arith, omega (arith, h, length-sets l 0 head_bytes))
+head_room m l r hm h = subst (λ (k : Kept). Room k r) (sym (fits nothing_armed None m l 0 hm none_ranged (omega (arith, h)))) (omega arith, omega (arith, h, length-sets l 0 head_bytes))
 
 pub room : (rule : DeskRule) (cs : List Call) → AllTyped cs → AllLent cs → (l : List ℕ) (ms : ℕ → List ℕ) → ((i : ℕ) → length (ms i) ≡ 4096) → length (record_of (answered_from (shown_from (fresh rule) cs))) ≤ length l
     → kept_all l ms (shown_from (fresh rule) cs) ≡ refused → ⊥
@@ -106,5 +105,5 @@ unfolding record_of
 room rule cs ty lent l ms hm h q =
     let e = length-append head_bytes (encode_elements (answered_from (shown_from (fresh rule) cs))) in
     subst (λ (k : Kept). Room k 0) q
-    (along (λ i. ms (suc i)) (λ i. hm (suc i)) cs (fresh rule) (appends nothing_armed no_count (ms 0) (kept l 0)) lent (all_ranged rule cs ty)
+    (along (λ i. ms (suc i)) (λ i. hm (suc i)) cs (fresh rule) (appends nothing_armed None (ms 0) (kept l 0)) lent (all_ranged rule cs ty)
     (head_room (ms 0) l (length (encode_elements (answered_from (shown_from (fresh rule) cs)))) (hm 0) (omega (arith, e, h))))

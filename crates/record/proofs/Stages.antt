@@ -1,11 +1,10 @@
 -- The logs of stages and of arming: what they start, and what they leave in ADDR_ENDP. Assumes nothing.
+use Rattle.std.specs.Prelude.{None, Option, Some}
 use mathlib.Core.Path.{◌≡◌, refl, ap, ap₂, ◌∙◌}
 use mathlib.Core.Bool.{Bool, true, false}
 use mathlib.Core.List.{List, [], ◌∷◌, ◌++◌, append-nil}
 use Prim.Native.Nat.{ℕ, ◌+◌, ◌*◌, ◌≤◌}
 use native.Mathlib.Omega.{arith}
-use Rattle.cutting.specs.declared.packetiser.OptionArm.{OptionArm}
-use Rattle.cutting.specs.declared.packetiser.OptionArm.TheVariants.{Some, None}
 use Rattle.cutting.specs.declared.packetiser.InPacketiser.{InPacketiser}
 use Rattle.cutting.specs.declared.packetiser.OutCounters.{OutCounters}
 use Rattle.cutting.specs.Counters.{in_next, out_next}
@@ -18,6 +17,7 @@ use Rattle.transfers.specs.Writes.{head_writes, enable_writes, go_writes}
 use Rattle.transfers.specs.Arming.{may_arm, in_armed, in_arm_if, in_arm, in_arm_two, out_armed, out_arm_if, out_arm, out_arm_two}
 use Rattle.record.specs.Wire.{File, performs, Event, out_at, events}
 use Rattle.record.proofs.Logs.{events_append, performs_append, Starts, Silent, starts_append, silent_nil, silent_enable, silent_go, head_quiet, head_addr, arm_addr, arm_out, arm_in}
+use Rattle.cutting.specs.declared.packetiser.Arm.{Arm}
 
 -- Between two silent pieces.
 pub between : (pre mid post : List Write) (es : List Event) → Silent pre → Starts mid es → Silent post → Starts (pre ++ (mid ++ post)) es
@@ -59,7 +59,7 @@ heads pre mid es t n d p s f =
 
 -- ---- IN arming starts nothing
 
-in_armed_lem : (a : OptionArm) (b c : InPacketiser) (k : ℕ) → (in_next b).arm ≡ a → Silent (in_armed a c k).writes
+in_armed_lem : (a : Option Arm) (b c : InPacketiser) (k : ℕ) → (in_next b).arm ≡ a → Silent (in_armed a c k).writes
 in_armed_lem None b c k e = silent_nil
 in_armed_lem (Some a) b c k e = record { are = λ f. arm_in f a (in_fits b a e).small; addr = λ f. arm_addr f false a }
 
@@ -80,11 +80,11 @@ in_two w c k =
 
 -- ---- OUT arming starts what it says that it armed
 
-abbrev pub arm_events : OptionArm → List Event
+abbrev pub arm_events : Option Arm → List Event
 arm_events None = []
 arm_events (Some a) = out_at a.slot a.pid a.last a.length ∷ []
 
-out_armed_lem : (a : OptionArm) (b c : OutCounters) (k off : ℕ) (buf m : List ℕ) → (out_next b).arm ≡ a
+out_armed_lem : (a : Option Arm) (b c : OutCounters) (k off : ℕ) (buf m : List ℕ) → (out_next b).arm ≡ a
     → Starts (out_armed a c k off buf m).writes (arm_events (out_armed a c k off buf m).arm)
 out_armed_lem None b c k off buf m e = silent_nil
 out_armed_lem (Some a) b c k off buf m e = record { are = λ f. arm_out f a (out_fits b a e).small; addr = λ f. arm_addr f true a }

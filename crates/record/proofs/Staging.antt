@@ -1,4 +1,5 @@
 -- The count of stages tells the driver's stage, and an OUT stage has armed a packet: `sends_next` says what the logs say. Assumes nothing.
+use Rattle.std.specs.Prelude.{Err, None, Ok, Option, Result, Some}
 use mathlib.Core.Path.{◌≡◌, refl, sym, ap, ◌∙◌, subst}
 use mathlib.Core.Bool.{Bool, true, false, cond, ◌||◌}
 use mathlib.Core.List.{List, [], ◌∷◌, ◌++◌, map}
@@ -9,23 +10,11 @@ use lib.Dec.{eqb, leb, ltb}
 use Rattle.cutting.specs.declared.depacketiser.InDepacketiser.{InDepacketiser}
 use Rattle.transfers.specs.declared.host_controller.DataPhase.TheVariants.{In as phase_in, Out as phase_out, None as phase_none}
 use Rattle.transfers.specs.declared.wire.Direction.TheVariants.{In, Out}
-use Rattle.transfers.specs.declared.refusal.OptionRefusal.{OptionRefusal}
-use Rattle.transfers.specs.declared.refusal.OptionRefusal.TheVariants.{Some, None}
-use Rattle.transfers.specs.declared.answers.StepAnswer.{StepAnswer}
-use Rattle.transfers.specs.declared.answers.StepAnswer.TheVariants.{Waiting, Done, Refused}
 use Rattle.transfers.specs.declared.answers.Armed.{Armed}
-use Rattle.transfers.specs.declared.answers.OptionSetup.{OptionSetup}
-use Rattle.transfers.specs.declared.answers.OptionSetup.TheVariants.{Some as some_setup, None as no_setup}
-use Rattle.transfers.specs.declared.answers.OptionOut.{OptionOut}
-use Rattle.transfers.specs.declared.answers.OptionOut.TheVariants.{Some as some_out, None as no_out}
 use Rattle.transfers.specs.declared.sample.Sample.{Sample}
-use Rattle.transfers.specs.declared.sample.Poll.{Poll}
-use Rattle.transfers.specs.declared.sample.Poll.TheVariants.{Pending, Ready}
 use Rattle.transfers.specs.declared.sample.Found.TheVariants.{Complete, Failed, Neither}
 use Rattle.transfers.specs.declared.driver.DeskRule.{DeskRule}
 use Rattle.transfers.specs.declared.driver.Driver.{Driver}
-use Rattle.transfers.specs.declared.driver.Transfer.{Transfer}
-use Rattle.transfers.specs.declared.driver.Transfer.TheVariants.{Idle, Busy}
 use Rattle.transfers.specs.declared.driver.Run.{Run}
 use Rattle.transfers.specs.declared.driver.Request.{Request}
 use Rattle.transfers.specs.declared.driver.Stage.{Stage}
@@ -48,8 +37,6 @@ use Rattle.record.specs.Calls.{Begin, control_begin, bulk_begin, Call, begin, st
 use Rattle.record.proofs.Beginning.{control_refusal, bulk_refusal, passed, checked_control, checked_bulk}
 use borrow.Author.Tests.{ltb-false}
 use Rattle.cutting.specs.declared.transfer_type.TransferType.TheVariants.{FixedSize}
-use Rattle.cutting.specs.declared.packetiser.OptionArm.{OptionArm}
-use Rattle.cutting.specs.declared.packetiser.OptionArm.TheVariants.{Some as some_arm, None as no_arm}
 use Rattle.cutting.specs.declared.packetiser.OutCounters.{OutCounters}
 use Rattle.cutting.specs.Counters.{out_next, out_start}
 use Rattle.cutting.specs.Cut.{out_cut}
@@ -69,6 +56,13 @@ use Rattle.record.proofs.Begins.{address_of, size_of, kind_of, request_of, Check
 use Rattle.record.proofs.Answered.{Known, tells_call}
 use Rattle.record.proofs.Exists.{cut_some}
 use Rattle.record.proofs.Stepping.{FatalPoll, poll_fatal}
+use Rattle.transfers.specs.declared.answers.Step.TheVariants.{Done, Waiting}
+use Rattle.transfers.specs.declared.refusal.Refusal.{Refusal}
+use Rattle.transfers.specs.declared.answers.Step.{Step}
+use Rattle.transfers.specs.declared.answers.ArmedOut.{ArmedOut}
+use Rattle.transfers.specs.declared.answers.ArmedSetup.{ArmedSetup}
+use Rattle.cutting.specs.declared.packetiser.Arm.{Arm}
+use Rattle.transfers.specs.declared.sample.Found.{Found}
 
 -- ---- a call's log starts an OUT packet exactly where it says that it armed one
 
@@ -85,9 +79,9 @@ any_wired f m [] = refl
 any_wired f m (setup_at lo hi ∷ es) = any_wired f m es
 any_wired f m (out_at s b last n ∷ es) = refl
 
-abbrev is_said : OptionOut → Bool
-is_said no_out = false
-is_said (some_out x) = true
+abbrev is_said : Option ArmedOut → Bool
+is_said None = false
+is_said (Some x) = true
 
 abbrev says_out : Armed → Bool
 says_out a = is_said a.first || is_said a.second
@@ -95,15 +89,15 @@ says_out a = is_said a.first || is_said a.second
 any_said : (m : List ℕ) (a : Armed) → any_entry (entries_armed m a) ≡ says_out a
 any_said m a = by a.setup
   where
-    outs : (x y : OptionOut) → any_entry (outs_armed m x ++ outs_armed m y) ≡ is_said x || is_said y
-    outs no_out no_out = refl
-    outs no_out (some_out y) = refl
-    outs (some_out x) no_out = refl
-    outs (some_out x) (some_out y) = refl
+    outs : (x y : Option ArmedOut) → any_entry (outs_armed m x ++ outs_armed m y) ≡ is_said x || is_said y
+    outs None None = refl
+    outs None (Some y) = refl
+    outs (Some x) None = refl
+    outs (Some x) (Some y) = refl
 
-    by : (s : OptionSetup) → any_entry (setups_armed s ++ (outs_armed m a.first ++ outs_armed m a.second)) ≡ says_out a
-    by no_setup = outs a.first a.second
-    by (some_setup s) = outs a.first a.second
+    by : (s : Option ArmedSetup) → any_entry (setups_armed s ++ (outs_armed m a.first ++ outs_armed m a.second)) ≡ says_out a
+    by None = outs a.first a.second
+    by (Some s) = outs a.first a.second
 
 starts_said : (c : Call) (d : Driver) (f : File) → Typed c → Known f d.transfer → any_out (events f (call d c).writes) ≡ says_out (call d c).armed
 unfolding wire
@@ -113,9 +107,9 @@ starts_said c d f ty i =
 
 -- ---- an OUT stage arms a packet where it begins
 
-abbrev is_arm : OptionArm → Bool
-is_arm no_arm = false
-is_arm (some_arm a) = true
+abbrev is_arm : Option Arm → Bool
+is_arm None = false
+is_arm (Some a) = true
 
 some_first : (buf now m : List ℕ) (c : OutCounters) (ks : Packets) → c.slot ≡ false → OutLeft buf c ks → (ks ≡ [] → ⊥) → is_arm (out_arm_two 0 c 0 now m).first ≡ true
 unfolding out_arm_two out_arm
@@ -124,11 +118,11 @@ some_first buf now m c ks e l h =
   where
     by : {ks : Packets} → OutLeft buf c ks → (ks ≡ [] → ⊥) → is_arm (out_armed (out_next c).arm (out_next c).rest 0 c.offset now m).arm ≡ true
     by (stop q) h = absurd (h refl)
-    by (go a q s i l) h = subst (λ (x : OptionArm). is_arm (out_armed x (out_next c).rest 0 c.offset now m).arm ≡ true) (sym q) refl
+    by (go a q s i l) h = subst (λ (x : Option Arm). is_arm (out_armed x (out_next c).rest 0 c.offset now m).arm ≡ true) (sym q) refl
 
-said_first : (a e : ℕ) (x y : OptionArm) → is_arm x ≡ true → says_out (outs_said a e x y) ≡ true
-said_first a e no_arm y h = absurd (let z : ◌≡◌ {A = ℕ} 0 1 = cc in omega arith)
-said_first a e (some_arm x) y h = refl
+said_first : (a e : ℕ) (x y : Option Arm) → is_arm x ≡ true → says_out (outs_said a e x y) ≡ true
+said_first a e None y h = absurd (let z : ◌≡◌ {A = ℕ} 0 1 = cc in omega arith)
+said_first a e (Some x) y h = refl
 
 -- ---- the stages of a transfer, each with the count of those reported complete before it
 
@@ -199,28 +193,28 @@ sends_at x buf n (out_stage st) h = by x st.status h
 
 -- ---- what holds between calls
 
-abbrev Stays : Begin → List ℕ → ℕ → Bool → Transfer → Type 0
-Stays x buf n b Idle = ⊥
-Stays x buf n b (Busy r) = (r.request ≡ request_of x buf) × At x n r.stage × (is_out r.stage ≡ b)
+abbrev Stays : Begin → List ℕ → ℕ → Bool → Option Run → Type 0
+Stays x buf n b None = ⊥
+Stays x buf n b (Some r) = (r.request ≡ request_of x buf) × At x n r.stage × (is_out r.stage ≡ b)
 
-abbrev Held : Live → ℕ → Bool → Transfer → Type 0
-Held no_transfer n b Idle = b ≡ false
-Held no_transfer n b (Busy r) = ⊥
+abbrev Held : Live → ℕ → Bool → Option Run → Type 0
+Held no_transfer n b None = b ≡ false
+Held no_transfer n b (Some r) = ⊥
 Held (live x buf) n b t = Checked x buf × Stays x buf n b t
 
-held_sends : (l : Live) (n : ℕ) (b : Bool) (t : Transfer) → Held l n b t → sends_next l n ≡ b
-held_sends no_transfer n b Idle h = sym h
-held_sends no_transfer n b (Busy r) h = absurd h
-held_sends (live x buf) n b Idle h = absurd h.1
-held_sends (live x buf) n b (Busy r) h = sends_at x buf n r.stage h.1.1 ∙ h.1.2
+held_sends : (l : Live) (n : ℕ) (b : Bool) (t : Option Run) → Held l n b t → sends_next l n ≡ b
+held_sends no_transfer n b None h = sym h
+held_sends no_transfer n b (Some r) h = absurd h
+held_sends (live x buf) n b None h = absurd h.1
+held_sends (live x buf) n b (Some r) h = sends_at x buf n r.stage h.1.1 ∙ h.1.2
 
 -- ---- a step that acts
 
 -- c: the step finds TRANS_COMPLETE; b: the stage had armed an OUT packet.
-abbrev Turned : Begin → List ℕ → ℕ → Bool → Bool → StepAnswer → Transfer → Armed → Type 0
-Turned x buf n b c (Waiting again) t a = Stays x buf (cond c (suc n) n) (cond c (says_out a) (b || says_out a)) t
-Turned x buf n b c (Done k) t a = (t ≡ Idle) × (says_out a ≡ false)
-Turned x buf n b c (Refused why) t a = (ends why ≡ true) × (t ≡ Idle) × (says_out a ≡ false)
+abbrev Turned : Begin → List ℕ → ℕ → Bool → Bool → Result Step Refusal → Option Run → Armed → Type 0
+Turned x buf n b c (Ok (Waiting again)) t a = Stays x buf (cond c (suc n) n) (cond c (says_out a) (b || says_out a)) t
+Turned x buf n b c (Ok (Done k)) t a = (t ≡ None) × (says_out a ≡ false)
+Turned x buf n b c (Err why) t a = (ends why ≡ true) × (t ≡ None) × (says_out a ≡ false)
 
 abbrev Turn : Begin → List ℕ → ℕ → Bool → Bool → Outcome → Type 0
 Turn x buf n b c o = Turned x buf n b c o.answer o.next o.armed
@@ -311,37 +305,37 @@ turn_out_done x buf n st parity m bf h = by x st.status h
     by (control_begin a z p s phase_none) v h = absurd h
     by (bulk_begin d a e p t b) v h = (refl, refl)
 
-turn_polls : (x : Begin) (buf : List ℕ) → Checked x buf → (n : ℕ) (st : Stage) (p : Poll) (w : ℕ) (now m : List ℕ) → FatalPoll p → At x n st
+turn_polls : (x : Begin) (buf : List ℕ) → Checked x buf → (n : ℕ) (st : Stage) (p : Option Found) (w : ℕ) (now m : List ℕ) → FatalPoll p → At x n st
     → Turn x buf n (is_out st) (is_complete p) (polls p (request_of x buf) st w now m)
 unfolding setup_step in_step out_step out_complete out_move
-turn_polls x buf ck n st Pending w now m f h = (refl, h, or_false (is_out st))
-turn_polls x buf ck n setup_stage (Ready Complete) w now m f h = turn_setup x buf ck n now m h
-turn_polls x buf ck n setup_stage (Ready (Failed e)) w now m f h = (f, refl, refl)
-turn_polls x buf ck n setup_stage (Ready Neither) w now m f h = (refl, h, refl)
-turn_polls x buf ck n (in_stage st) (Ready Complete) w now m f h =
+turn_polls x buf ck n st None w now m f h = (refl, h, or_false (is_out st))
+turn_polls x buf ck n setup_stage (Some Complete) w now m f h = turn_setup x buf ck n now m h
+turn_polls x buf ck n setup_stage (Some (Failed e)) w now m f h = (f, refl, refl)
+turn_polls x buf ck n setup_stage (Some Neither) w now m f h = (refl, h, refl)
+turn_polls x buf ck n (in_stage st) (Some Complete) w now m f h =
     turn_keeping x buf n false true st.status now _ (turn_in_complete x buf ck n st w (lent st.status now) m h)
-turn_polls x buf ck n (in_stage st) (Ready (Failed e)) w now m f h = turn_keeping x buf n false false st.status now _ (f, refl, refl)
-turn_polls x buf ck n (in_stage st) (Ready Neither) w now m f h = turn_keeping x buf n false false st.status now _ (turn_in_move x buf n st w (lent st.status now) m h)
-turn_polls x buf ck n (out_stage st) (Ready Complete) w now m f h =
+turn_polls x buf ck n (in_stage st) (Some (Failed e)) w now m f h = turn_keeping x buf n false false st.status now _ (f, refl, refl)
+turn_polls x buf ck n (in_stage st) (Some Neither) w now m f h = turn_keeping x buf n false false st.status now _ (turn_in_move x buf n st w (lent st.status now) m h)
+turn_polls x buf ck n (out_stage st) (Some Complete) w now m f h =
     turn_keeping x buf n true true st.status now _ (turn_out_done x buf n st (out_retire_two w st.retire st.inflight).parity m (lent st.status now) h)
-turn_polls x buf ck n (out_stage st) (Ready (Failed e)) w now m f h = turn_keeping x buf n true false st.status now _ (f, refl, refl)
-turn_polls x buf ck n (out_stage st) (Ready Neither) w now m f h = turn_keeping x buf n true false st.status now _ (refl, h, refl)
+turn_polls x buf ck n (out_stage st) (Some (Failed e)) w now m f h = turn_keeping x buf n true false st.status now _ (f, refl, refl)
+turn_polls x buf ck n (out_stage st) (Some Neither) w now m f h = turn_keeping x buf n true false st.status now _ (refl, h, refl)
 
 -- ---- every call
 
-same_held : (l : Live) (n : ℕ) (s : Bool) (t : Transfer) → Held l n s t → Held l n (s || false) t
+same_held : (l : Live) (n : ℕ) (s : Bool) (t : Option Run) → Held l n s t → Held l n (s || false) t
 same_held l n s t h = subst (λ (v : Bool). Held l n v t) (or_false s) h
 
-turned_held : (x : Begin) (buf : List ℕ) → Checked x buf → (n : ℕ) (s : Bool) (y : Sample) (now : List ℕ) (a : StepAnswer) (t : Transfer) (am : Armed) → Turned x buf n s (finds y) a t am
+turned_held : (x : Begin) (buf : List ℕ) → Checked x buf → (n : ℕ) (s : Bool) (y : Sample) (now : List ℕ) (a : Result Step Refusal) (t : Option Run) (am : Armed) → Turned x buf n s (finds y) a t am
     → let k = note_step a y now in Held (next_live k (live x buf)) (next_count k n) (cond (turns k) (says_out am) (s || says_out am)) t
-turned_held x buf ck n s y now (Waiting again) t am h = (ck, h)
-turned_held x buf ck n s y now (Done k) t am h = subst (λ (u : Transfer). Held no_transfer 0 (says_out am) u) (sym h.0) h.1
-turned_held x buf ck n s y now (Refused why) t am h = rw h.0 (subst (λ (u : Transfer). Held no_transfer 0 (says_out am) u) (sym h.1) h.2)
+turned_held x buf ck n s y now (Ok (Waiting again)) t am h = (ck, h)
+turned_held x buf ck n s y now (Ok (Done k)) t am h = subst (λ (u : Option Run). Held no_transfer 0 (says_out am) u) (sym h.0) h.1
+turned_held x buf ck n s y now (Err why) t am h = rw h.0 (subst (λ (u : Option Run). Held no_transfer 0 (says_out am) u) (sym h.1) h.2)
 
 abbrev StepHeld : Live → ℕ → Bool → Sample → List ℕ → Outcome → Type 0
 StepHeld l n s y now o = let k = note_step o.answer y now in Held (next_live k l) (next_count k n) (cond (turns k) (says_out o.armed) (s || says_out o.armed)) o.next
 
-acts_held : (x : Begin) (buf : List ℕ) (n : ℕ) (s : Bool) (r : Run) (y : Sample) (now m : List ℕ) → Held (live x buf) n s (Busy r) → StepHeld (live x buf) n s y now (acts r.request r.stage y now m)
+acts_held : (x : Begin) (buf : List ℕ) (n : ℕ) (s : Bool) (r : Run) (y : Sample) (now m : List ℕ) → Held (live x buf) n s (Some r) → StepHeld (live x buf) n s y now (acts r.request r.stage y now m)
 unfolding acts
 acts_held x buf n s r y now m h =
     let p = classify y.status y.intr in
@@ -352,19 +346,19 @@ acts_held x buf n s r y now m h =
     subst (λ (q : Request). StepHeld (live x buf) n s y now (polls p q r.stage y.buffers now m)) (sym h.1.0)
     (let o = polls p (request_of x buf) r.stage y.buffers now m in turned_held x buf h.0 n s y now o.answer o.next o.armed g)
 
-step_held : (b : Bool) (l : Live) (n : ℕ) (s : Bool) (t : Transfer) (y : Sample) (now m log : List ℕ) → Held l n s t → StepHeld l n s y now (step_of b t y now m log)
+step_held : (b : Bool) (l : Live) (n : ℕ) (s : Bool) (t : Option Run) (y : Sample) (now m log : List ℕ) → Held l n s t → StepHeld l n s y now (step_of b t y now m log)
 unfolding step_of
 step_held b l n s t y now m log h = at (lent_fits m log) l t h
   where
-    at : (p : Bool) (l : Live) (t : Transfer) → Held l n s t → StepHeld l n s y now (step_lent p b t y now m)
+    at : (p : Bool) (l : Live) (t : Option Run) → Held l n s t → StepHeld l n s y now (step_lent p b t y now m)
     at false l t h = same_held l n s t h
-    at true l Idle h = same_held l n s Idle h
-    at true no_transfer (Busy r) h = absurd h
-    at true (live x buf) (Busy r) h = by (may_step b r) (eqb (length now) r.request.length)
+    at true l None h = same_held l n s None h
+    at true no_transfer (Some r) h = absurd h
+    at true (live x buf) (Some r) h = by (may_step b r) (eqb (length now) r.request.length)
       where
         by : (p q : Bool) → StepHeld (live x buf) n s y now (step_if p q r y now m)
-        by false q = same_held (live x buf) n s (Busy r) h
-        by true false = same_held (live x buf) n s (Busy r) h
+        by false q = same_held (live x buf) n s (Some r) h
+        by true false = same_held (live x buf) n s (Some r) h
         by true true = acts_held x buf n s r y now m h
 
 abbrev BeginHeld : Begin → List ℕ → List ℕ → List ℕ → Live → ℕ → Bool → Beginning → Type 0
@@ -372,12 +366,12 @@ BeginHeld x buf m log l n s o =
     let k = note (begin x buf m log) o.answer in
     Held (next_live k l) (next_count k n) (cond (turns k) (says_out o.armed) (s || says_out o.armed)) o.next
 
-begun_held : (x : Begin) (buf m log : List ℕ) (l : Live) (n : ℕ) (s : Bool) (t : Transfer) (why : OptionRefusal) (o : Beginning) → Held l n s t → (why ≡ None → BeginHeld x buf m log l n s o)
+begun_held : (x : Begin) (buf m log : List ℕ) (l : Live) (n : ℕ) (s : Bool) (t : Option Run) (why : Result (Unit {0}) Refusal) (o : Beginning) → Held l n s t → (why ≡ Ok tt → BeginHeld x buf m log l n s o)
     → BeginHeld x buf m log l n s (begin_or why t m o)
-begun_held x buf m log l n s t (Some why) o h k = same_held l n s t h
-begun_held x buf m log l n s t None o h k = k refl
+begun_held x buf m log l n s t (Err why) o h k = same_held l n s t h
+begun_held x buf m log l n s t (Ok tt) o h k = k refl
 
-begin_held : (x : Begin) (buf m log : List ℕ) (l : Live) (n : ℕ) (s : Bool) (t : Transfer) → TypedBegin x → Held l n s t → BeginHeld x buf m log l n s (beginning t x buf m log)
+begin_held : (x : Begin) (buf m log : List ℕ) (l : Live) (n : ℕ) (s : Bool) (t : Option Run) → TypedBegin x → Held l n s t → BeginHeld x buf m log l n s (beginning t x buf m log)
 unfolding begin_control_of begin_bulk_in_of begin_bulk_out_of start_in start_out
 begin_held (control_begin a z p v ph) buf m log l n s t ty h =
     begun_held (control_begin a z p v ph) buf m log l n s t (control_refusal t a p m log) (begins_control a z p v ph (length buf) m) h
@@ -398,14 +392,14 @@ begin_held (bulk_begin Out a e p k b) buf m log l n s t ty h =
     let g = out_arm_two 0 c 0 buf m in
     (ck, (refl, refl, sym (said_first a e g.first g.second (some_first buf buf m c (out_cut k p b buf) refl (all_cut k p b buf ck.low ck.high ck.kind.2) (cut_some k p b buf ck.low))))))
 
-cancel_held : (l : Live) (n : ℕ) (s : Bool) (t : Transfer) → Held l n s t
+cancel_held : (l : Live) (n : ℕ) (s : Bool) (t : Option Run) → Held l n s t
     → let o = cancel_of t in let k = note cancel o.answer in Held (next_live k l) (next_count k n) (cond (turns k) false (s || false)) o.next
 unfolding cancel_of
-cancel_held l n s Idle h = same_held l n s Idle h
-cancel_held l n s (Busy r) h = by (either_serves r)
+cancel_held l n s None h = same_held l n s None h
+cancel_held l n s (Some r) h = by (either_serves r)
   where
-    by : (b : Bool) → let o = cancel_if b (Busy r) (toggle_in r.request.kind) (toggle_out r.request.kind (stage_parity r.stage)) in let k = note cancel o.answer in Held (next_live k l) (next_count k n) (cond (turns k) false (s || false)) o.next
-    by false = same_held l n s (Busy r) h
+    by : (b : Bool) → let o = cancel_if b (Some r) (toggle_in r.request.kind) (toggle_out r.request.kind (stage_parity r.stage)) in let k = note cancel o.answer in Held (next_live k l) (next_count k n) (cond (turns k) false (s || false)) o.next
+    by false = same_held l n s (Some r) h
     by true = refl
 
 call_held : (c : Call) (d : Driver) (l : Live) (n : ℕ) (s : Bool) → Typed c → Held l n s d.transfer

@@ -1,4 +1,5 @@
 -- A step keeps the invariant: it starts the first of the entries that are due. Assumes nothing.
+use Rattle.std.specs.Prelude.{None, Ok, Option, Some}
 use mathlib.Core.Path.{◌≡◌, refl, sym, ap, ◌∙◌, subst}
 use mathlib.Core.Bool.{Bool, true, false, cond, ◌&&◌, true≢false}
 use mathlib.Core.List.{List, [], ◌∷◌, ◌++◌, append-nil}
@@ -20,16 +21,11 @@ use Rattle.transfers.specs.declared.host_controller.DataPhase.TheVariants.{In as
 use Rattle.transfers.specs.declared.wire.Direction.TheVariants.{In, Out}
 use Rattle.transfers.specs.declared.refusal.Refusal.{Refusal}
 use Rattle.transfers.specs.declared.refusal.Refusal.TheVariants.{Usb, LentMemory, State}
-use Rattle.transfers.specs.declared.answers.StepAnswer.TheVariants.{Done}
 use Rattle.transfers.specs.declared.answers.Armed.{Armed as ArmedAnswer}
 use Rattle.transfers.specs.declared.sample.Sample.{Sample}
-use Rattle.transfers.specs.declared.sample.Poll.{Poll}
-use Rattle.transfers.specs.declared.sample.Poll.TheVariants.{Pending, Ready}
 use Rattle.transfers.specs.declared.sample.Found.{Found}
 use Rattle.transfers.specs.declared.sample.Found.TheVariants.{Complete, Failed, Neither}
 use Rattle.transfers.specs.declared.driver.Driver.{Driver}
-use Rattle.transfers.specs.declared.driver.Transfer.{Transfer}
-use Rattle.transfers.specs.declared.driver.Transfer.TheVariants.{Idle, Busy}
 use Rattle.transfers.specs.declared.driver.Run.{Run}
 use Rattle.transfers.specs.declared.driver.Request.{Request}
 use Rattle.transfers.specs.declared.driver.Stage.{Stage}
@@ -43,8 +39,6 @@ use Rattle.transfers.specs.Masks.{ready_mask}
 use Rattle.transfers.specs.Sample.{Error, errors, first_of, classify}
 use Rattle.transfers.specs.Writes.{enable_writes, polled, awaits, quiets, completes}
 use Rattle.transfers.specs.Arming.{may_arm, in_arm_two, OutArmings, out_arm_two}
-use Rattle.cutting.specs.declared.packetiser.OptionArm.{OptionArm}
-use Rattle.cutting.specs.declared.packetiser.OptionArm.TheVariants.{Some, None}
 use Rattle.cutting.specs.declared.packetiser.OutCounters.{OutCounters}
 use Rattle.transfers.specs.Answers.{nothing_armed, outs_armed}
 use Rattle.transfers.specs.State.{endpoint_of, first_pid, target_of, stage_length}
@@ -66,6 +60,8 @@ use Rattle.record.proofs.Arming.{Packets, Over, none_armed, Two, two, two_alike}
 use Rattle.record.proofs.Begins.{address_of, size_of, kind_of, request_of, Checked, Room}
 use Rattle.record.proofs.Inv.{entries_of, due_after, InLegal, OutLegal, shown_file, Sending, StageInv, BusyInv, Inv, Kept, wire_none, same_due, over_seen, stage_kept, inv_kept}
 use Rattle.record.proofs.Starting.{counters_back, moved_to, arming, start_out_lem, start_starts, start_in_lem}
+use Rattle.transfers.specs.declared.answers.Step.TheVariants.{Done}
+use Rattle.cutting.specs.declared.packetiser.Arm.{Arm}
 
 -- ---- an error that a sample shows ends the transfer
 
@@ -74,9 +70,9 @@ Fatal Complete = Unit {0}
 Fatal (Failed e) = ends (Usb e) ≡ true
 Fatal Neither = Unit {0}
 
-abbrev pub FatalPoll : Poll → Type 0
-FatalPoll Pending = Unit {0}
-FatalPoll (Ready f) = Fatal f
+abbrev pub FatalPoll : Option Found → Type 0
+FatalPoll None = Unit {0}
+FatalPoll (Some f) = Fatal f
 
 abbrev AllFatal : List Error → Type 0
 AllFatal [] = Unit {0}
@@ -94,12 +90,12 @@ pub poll_fatal : (status intr : ℕ) → FatalPoll (classify status intr)
 unfolding classify
 poll_fatal status intr = by (eqb (bit_and intr ready_mask) 0) (bit 18 status)
   where
-    by : (v c : Bool) → FatalPoll (cond v Pending (Ready (cond c Complete (first_of status errors))))
+    by : (v c : Bool) → FatalPoll (cond v None (Some (cond c Complete (first_of status errors))))
     by true c = tt
     by false true = tt
     by false false = first_fatal status errors (refl, (refl, (refl, (refl, (refl, (refl, tt))))))
 
-pub found_ends : (y : Sample) (e : UsbError) → classify y.status y.intr ≡ Ready (Failed e) → ends (Usb e) ≡ true
+pub found_ends : (y : Sample) (e : UsbError) → classify y.status y.intr ≡ Some (Failed e) → ends (Usb e) ≡ true
 found_ends y e q = subst FatalPoll q (poll_fatal y.status y.intr)
 
 -- ---- the writes of a step before it starts anything
@@ -143,7 +139,7 @@ lent_arms x status n buf now w c k m g = by (out_arm_two w c k (lent status now)
     same : LentIts (live x buf) now → out_arm_two w c k (lent status now) m ≡ out_arm_two w c k (lent status buf) m
     same h = ap (λ (u : List ℕ). out_arm_two w c k u m) (lent_same x status n buf now g h)
 
-    by : (a b : OptionArm) → (out_arm_two w c k (lent status now) m).first ≡ a → (out_arm_two w c k (lent status now) m).second ≡ b → LentIf (arm_events a ++ arm_events b) (live x buf) now
+    by : (a b : Option Arm) → (out_arm_two w c k (lent status now) m).first ≡ a → (out_arm_two w c k (lent status now) m).second ≡ b → LentIf (arm_events a ++ arm_events b) (live x buf) now
         → out_arm_two w c k (lent status now) m ≡ out_arm_two w c k (lent status buf) m
     by None None p q h = none_armed w c k (lent status now) (lent status buf) m p q
     by None (Some b) p q h = same h
@@ -174,12 +170,12 @@ module _ (d : Driver) (b : Bool) (y : Sample) (now m log : List ℕ) (n : ℕ) (
   abbrev Step : Begin → List ℕ → List Entry → Outcome → Type 0
   Step x buf rest o = Kept (live x buf) n w f rest (step b y now m log) (steps d b y now m log o)
 
-  abbrev Ok : Begin → List ℕ → List Entry → Outcome → Type 0
-  Ok x buf rest o = CallGood (note_step o.answer y now) (live x buf) n w (events f o.writes) → Step x buf rest o
+  abbrev Fine : Begin → List ℕ → List Entry → Outcome → Type 0
+  Fine x buf rest o = CallGood (note_step o.answer y now) (live x buf) n w (events f o.writes) → Step x buf rest o
 
   -- The buffer doesn't matter.
-  keeps : (s : Bool) (x : Begin) (buf : List ℕ) (rest : List Entry) (o : Outcome) → Ok x buf rest (after quietened o)
-      → Ok x buf rest (after polled_only (keeping s now (after quiets o)))
+  keeps : (s : Bool) (x : Begin) (buf : List ℕ) (rest : List Entry) (o : Outcome) → Fine x buf rest (after quietened o)
+      → Fine x buf rest (after polled_only (keeping s now (after quiets o)))
   keeps true x buf rest o h = h
   keeps false x buf rest o h = h
 
@@ -187,12 +183,12 @@ module _ (d : Driver) (b : Bool) (y : Sample) (now m log : List ℕ) (n : ℕ) (
 
   -- A refusal that ends the transfer.
   ok_failed : (x : Begin) (buf : List ℕ) (rest : List Entry) (ws : List Write) (e : UsbError) (bf : List ℕ) → ends (Usb e) ≡ true → Silent (ws ++ [])
-      → Ok x buf rest (after ws (fails (request_of x buf) false e m bf))
+      → Fine x buf rest (after ws (fails (request_of x buf) false e m bf))
   ok_failed x buf rest ws e bf k s h = record { rest' = []; inv = rw k refl; split = rw k (wire_none f (ws ++ []) m (s.are f)); room = λ q r. absurd (true≢false (rw k at q)) }
 
   -- The end with a count: nothing is due.
   ok_done : (x : Begin) (buf : List ℕ) (rest : List Entry) (ws : List Write) (k : ℕ) (t : Bool) (bf : List ℕ) → Silent (ws ++ []) → rest ≡ [] → Room x buf
-      → Step x buf rest (after ws (ended (Done k) t t m bf))
+      → Step x buf rest (after ws (ended (Ok (Done k)) t t m bf))
   ok_done x buf rest ws k t bf s e r = record {
     rest' = [];
     inv = refl;
@@ -252,17 +248,17 @@ module _ (d : Driver) (b : Bool) (y : Sample) (now m log : List ℕ) (n : ℕ) (
   -- ---- SETUP is done
 
   setup_done_lem : (x : Begin) (buf : List ℕ) → Checked x buf → (rest : List Entry) → finds y ≡ true → length m ≡ 4096 → StageInv x buf n w f setup_stage rest
-      → Ok x buf rest (after polled_only (setup_step Complete (request_of x buf) now m))
+      → Fine x buf rest (after polled_only (setup_step Complete (request_of x buf) now m))
   unfolding setup_step
   setup_done_lem (control_begin a z p s phase_in) buf ck rest e full i = by (ltb (length buf) s.wLength)
     where
-      by : (v : Bool) → Ok (control_begin a z p s phase_in) buf rest (after polled_only (setup_done phase_in v (request_of (control_begin a z p s phase_in) buf) s.wLength now m))
+      by : (v : Bool) → Fine (control_begin a z p s phase_in) buf rest (after polled_only (setup_done phase_in v (request_of (control_begin a z p s phase_in) buf) s.wLength now m))
       by true = ok_failed (control_begin a z p s phase_in) buf rest polled_only BufferTooSmall now refl silent_polled
       by false = λ h. enters_in_lem (control_begin a z p s phase_in) buf ck rest polled_only false s.wLength now silent_polled e (ap suc i.1) i.2
   setup_done_lem (control_begin a z p s phase_out) buf ck rest e full i = by (ltb (length buf) s.wLength) refl
     where
       by : (v : Bool) → ltb (length buf) s.wLength ≡ v
-          → Ok (control_begin a z p s phase_out) buf rest (after polled_only (setup_done phase_out v (request_of (control_begin a z p s phase_out) buf) s.wLength now m))
+          → Fine (control_begin a z p s phase_out) buf rest (after polled_only (setup_done phase_out v (request_of (control_begin a z p s phase_out) buf) s.wLength now m))
       by true q = ok_failed (control_begin a z p s phase_out) buf rest polled_only BufferTooSmall now refl silent_polled
       by false q = λ h.
           let room : s.wLength ≤ length buf = ltb-false (length buf) s.wLength q in
@@ -297,15 +293,15 @@ module _ (d : Driver) (b : Bool) (y : Sample) (now m log : List ℕ) (n : ℕ) (
     X = request_of x buf
 
     in_complete_lem : (st : InStage) (wd : ℕ) (bf : List ℕ) → finds y ≡ true → length m ≡ 4096 → StageInv x buf n w f (in_stage st) rest
-        → Ok x buf rest (after quietened (in_complete X st wd bf m))
+        → Fine x buf rest (after quietened (in_complete X st wd bf m))
     unfolding in_complete
     in_complete_lem st wd bf e full i = let g = in_retire_one wd (in_received st) st.inflight bf m in first g.long g
       where
-        second : (v : Bool) (h : InRetiring) → Ok x buf rest (after completed (in_second_done v h X st.status m))
+        second : (v : Bool) (h : InRetiring) → Fine x buf rest (after completed (in_second_done v h X st.status m))
         second true h = ok_failed x buf rest completed ProtocolError h.buffer refl silent_completed
         second false h = λ k. in_done_lem x buf ck rest st.status h.packets h.buffer e full i.0 i.1
 
-        first : (v : Bool) (g : InRetiring) → Ok x buf rest (after quietened (in_first_done v g wd X st.status m))
+        first : (v : Bool) (g : InRetiring) → Fine x buf rest (after quietened (in_first_done v g wd X st.status m))
         first true g = ok_failed x buf rest quietened ProtocolError g.buffer refl silent_quietened
         first false g = let h = in_retire_one wd g.packets g.inflight g.buffer m in second h.long h
 
@@ -319,15 +315,15 @@ module _ (d : Driver) (b : Bool) (y : Sample) (now m log : List ℕ) (n : ℕ) (
         let st' : InStage = record { status = st.status; slot = g.packets.slot; toarm = g.packets.remain; zlp = g.packets.zlp; retire = dp.parity; remain = dp.remain; offset = dp.offset; inflight = g.inflight } in
         ok_wait x buf ck rest rest (in_stage st') true nothing_armed (quietened ++ (g.writes ++ last)) m bf false e i (same_due f (quietened ++ (g.writes ++ last)) m rest (s.are f))
 
-    in_move_lem : (st : InStage) (wd : ℕ) (bf : List ℕ) → finds y ≡ false → StageInv x buf n w f (in_stage st) rest → Ok x buf rest (after quietened (in_move X st wd bf m))
+    in_move_lem : (st : InStage) (wd : ℕ) (bf : List ℕ) → finds y ≡ false → StageInv x buf n w f (in_stage st) rest → Fine x buf rest (after quietened (in_move X st wd bf m))
     unfolding in_move
     in_move_lem st wd bf e i = let g = in_retire_one wd (in_received st) st.inflight bf m in first g.long g
       where
-        second : (v : Bool) (h : InRetiring) → Ok x buf rest (after quietened (in_second_moved v h wd X st m))
+        second : (v : Bool) (h : InRetiring) → Fine x buf rest (after quietened (in_second_moved v h wd X st m))
         second true h = ok_failed x buf rest quietened ProtocolError h.buffer refl silent_quietened
         second false h = λ k. in_rearm_lem st h.packets h.inflight wd h.buffer e i
 
-        first : (v : Bool) (g : InRetiring) → Ok x buf rest (after quietened (in_first_moved v g wd X st m))
+        first : (v : Bool) (g : InRetiring) → Fine x buf rest (after quietened (in_first_moved v g wd X st m))
         first true g = ok_failed x buf rest quietened ProtocolError g.buffer refl silent_quietened
         first false g = let h = in_retire_one wd g.packets g.inflight g.buffer m in second h.long h
 
@@ -335,14 +331,14 @@ module _ (d : Driver) (b : Bool) (y : Sample) (now m log : List ℕ) (n : ℕ) (
 
   out_done_lem : (x : Begin) (buf : List ℕ) → Checked x buf → (rest : List Entry) (st : OutStage) (parity : Bool) (bf : List ℕ) → finds y ≡ true
       → OutLegal x buf st.status n
-      → (TakenIf (finds y && sends_next (live x buf) n) (seen w y) → rest ≡ []) → Ok x buf rest (after completed (out_done (kind_of x) (request_of x buf) st parity m bf))
+      → (TakenIf (finds y && sends_next (live x buf) n) (seen w y) → rest ≡ []) → Fine x buf rest (after completed (out_done (kind_of x) (request_of x buf) st parity m bf))
   out_done_lem x buf ck rest st parity bf e g q = by x st.status ck g q
     where
       at : Bool → OutStage
       at v = record { status = v; slot = st.slot; remain = st.remain; offset = st.offset; zlp = st.zlp; retire = st.retire; inflight = st.inflight; received = st.received }
 
       by : (x : Begin) (v : Bool) → Checked x buf → OutLegal x buf v n → (TakenIf (finds y && sends_next (live x buf) n) (seen w y) → rest ≡ [])
-          → Ok x buf rest (after completed (out_done (kind_of x) (request_of x buf) (at v) parity m bf))
+          → Fine x buf rest (after completed (out_done (kind_of x) (request_of x buf) (at v) parity m bf))
       by (control_begin a z p s phase_in) true ck g q = λ h. ok_done (control_begin a z p s phase_in) buf rest completed st.received false bf silent_completed (q h.1) tt
       by (control_begin a z p s phase_in) false ck g q = absurd g
       by (control_begin a z p s phase_out) true ck g q = absurd g
@@ -353,13 +349,13 @@ module _ (d : Driver) (b : Bool) (y : Sample) (now m log : List ℕ) (n : ℕ) (
 
   module _ (x : Begin) (buf : List ℕ) (ck : Checked x buf) (rest : List Entry) where
     out_complete_lem : (st : OutStage) (wd : ℕ) (bf : List ℕ) → finds y ≡ true → StageInv x buf n w f (out_stage st) rest
-        → Ok x buf rest (after quietened (out_complete (request_of x buf) st wd m bf))
+        → Fine x buf rest (after quietened (out_complete (request_of x buf) st wd m bf))
     unfolding out_complete
     out_complete_lem st wd bf e i =
         out_done_lem x buf ck rest st (out_retire_two wd st.retire st.inflight).parity bf e i.0 (none_due x buf n w f st rest y i.0 i.1 e)
 
     out_move_lem : (st : OutStage) → finds y ≡ false → length m ≡ 4096 → StageInv x buf n w f (out_stage st) rest
-        → Ok x buf rest (after quietened (out_move (request_of x buf) st y.buffers (lent st.status now) m))
+        → Fine x buf rest (after quietened (out_move (request_of x buf) st y.buffers (lent st.status now) m))
     unfolding out_move
     out_move_lem st e full i h =
         let X = request_of x buf in
@@ -386,29 +382,29 @@ module _ (d : Driver) (b : Bool) (y : Sample) (now m log : List ℕ) (n : ℕ) (
 
     -- ---- the step
 
-    step_polls : (st : Stage) (p : Poll) → classify y.status y.intr ≡ p → length m ≡ 4096 → StageInv x buf n w f st rest
-        → Ok x buf rest (polls p (request_of x buf) st y.buffers now m)
+    step_polls : (st : Stage) (p : Option Found) → classify y.status y.intr ≡ p → length m ≡ 4096 → StageInv x buf n w f st rest
+        → Fine x buf rest (polls p (request_of x buf) st y.buffers now m)
     unfolding setup_step in_step out_step
-    step_polls st Pending e full i h = ok_same x buf ck rest st false (polled ∷ awaits ∷ []) silent_awaiting (finds_is y ∙ ap is_complete e) i
-    step_polls setup_stage (Ready Complete) e full i h = setup_done_lem x buf ck rest (finds_is y ∙ ap is_complete e) full i h
-    step_polls setup_stage (Ready (Failed u)) e full i h = ok_failed x buf rest polled_only u now (found_ends y u e) silent_polled h
-    step_polls setup_stage (Ready Neither) e full i h = ok_same x buf ck rest setup_stage true polled_only silent_polled (finds_is y ∙ ap is_complete e) i
-    step_polls (in_stage st) (Ready Complete) e full i h =
+    step_polls st None e full i h = ok_same x buf ck rest st false (polled ∷ awaits ∷ []) silent_awaiting (finds_is y ∙ ap is_complete e) i
+    step_polls setup_stage (Some Complete) e full i h = setup_done_lem x buf ck rest (finds_is y ∙ ap is_complete e) full i h
+    step_polls setup_stage (Some (Failed u)) e full i h = ok_failed x buf rest polled_only u now (found_ends y u e) silent_polled h
+    step_polls setup_stage (Some Neither) e full i h = ok_same x buf ck rest setup_stage true polled_only silent_polled (finds_is y ∙ ap is_complete e) i
+    step_polls (in_stage st) (Some Complete) e full i h =
         keeps st.status x buf rest (in_complete (request_of x buf) st y.buffers (lent st.status now) m) (in_complete_lem x buf ck rest st y.buffers (lent st.status now) (finds_is y ∙ ap is_complete e) full i) h
-    step_polls (in_stage st) (Ready (Failed u)) e full i h =
+    step_polls (in_stage st) (Some (Failed u)) e full i h =
         keeps st.status x buf rest (fails (request_of x buf) st.retire u m (lent st.status now)) (ok_failed x buf rest quietened u (lent st.status now) (found_ends y u e) silent_quietened) h
-    step_polls (in_stage st) (Ready Neither) e full i h =
+    step_polls (in_stage st) (Some Neither) e full i h =
         keeps st.status x buf rest (in_move (request_of x buf) st y.buffers (lent st.status now) m) (in_move_lem x buf ck rest st y.buffers (lent st.status now) (finds_is y ∙ ap is_complete e) i) h
-    step_polls (out_stage st) (Ready Complete) e full i h =
+    step_polls (out_stage st) (Some Complete) e full i h =
         keeps st.status x buf rest (out_complete (request_of x buf) st y.buffers m (lent st.status now)) (out_complete_lem st y.buffers (lent st.status now) (finds_is y ∙ ap is_complete e) i) h
-    step_polls (out_stage st) (Ready (Failed u)) e full i h =
+    step_polls (out_stage st) (Some (Failed u)) e full i h =
         keeps st.status x buf rest (fails (request_of x buf) st.retire u m (lent st.status now)) (ok_failed x buf rest quietened u (lent st.status now) (found_ends y u e) silent_quietened) h
-    step_polls (out_stage st) (Ready Neither) e full i h =
+    step_polls (out_stage st) (Some Neither) e full i h =
         keeps st.status x buf rest (out_move (request_of x buf) st y.buffers (lent st.status now) m) (out_move_lem st (finds_is y ∙ ap is_complete e) full i) h
 
 -- ---- the checks before it
 
-step_refused : (d : Driver) (b : Bool) (y : Sample) (now m log : List ℕ) (l : Live) (n : ℕ) (w : Watch) (f : File) (t : Transfer) (rest : List Entry) (why : Refusal)
+step_refused : (d : Driver) (b : Bool) (y : Sample) (now m log : List ℕ) (l : Live) (n : ℕ) (w : Watch) (f : File) (t : Option Run) (rest : List Entry) (why : Refusal)
     → ends why ≡ false
     → Inv l n w f t rest → Kept l n w f rest (step b y now m log) (steps d b y now m log (refuses t why m now))
 step_refused d b y now m log l n w f t rest why e i =
@@ -416,26 +412,26 @@ step_refused d b y now m log l n w f t rest why e i =
 
 step_acts : (d : Driver) (b : Bool) (y : Sample) (now m log : List ℕ) (x : Begin) (buf : List ℕ) (n : ℕ) (w : Watch) (f : File) (r : Run) (rest : List Entry)
     → length m ≡ 4096 → BusyInv x buf n w f r rest
-    → Ok d b y now m log n w f x buf rest (acts r.request r.stage y now m)
+    → Fine d b y now m log n w f x buf rest (acts r.request r.stage y now m)
 unfolding acts
 step_acts d b y now m log x buf n w f r rest full i =
-    subst (λ (q : Request). Ok d b y now m log n w f x buf rest (polls (classify y.status y.intr) q r.stage y.buffers now m)) (sym i.same)
+    subst (λ (q : Request). Fine d b y now m log n w f x buf rest (polls (classify y.status y.intr) q r.stage y.buffers now m)) (sym i.same)
     (step_polls d b y now m log n w f x buf i.checked rest r.stage (classify y.status y.intr) refl full i.stage)
 
-step_lent_lem : (d : Driver) (b : Bool) (y : Sample) (now m log : List ℕ) (l : Live) (n : ℕ) (w : Watch) (f : File) (t : Transfer) (rest : List Entry) (p : Bool)
+step_lent_lem : (d : Driver) (b : Bool) (y : Sample) (now m log : List ℕ) (l : Live) (n : ℕ) (w : Watch) (f : File) (t : Option Run) (rest : List Entry) (p : Bool)
     → lent_fits m log ≡ p → Inv l n w f t rest
     → CallGood (note_step (step_lent p b t y now m).answer y now) l n w (events f (step_lent p b t y now m).writes) → Kept l n w f rest (step b y now m log) (steps d b y now m log (step_lent p b t y now m))
 step_lent_lem d b y now m log l n w f t rest false e i h = step_refused d b y now m log l n w f t rest LentMemory refl i
-step_lent_lem d b y now m log l n w f Idle rest true e i h = step_refused d b y now m log l n w f Idle rest State refl i
-step_lent_lem d b y now m log no_transfer n w f (Busy r) rest true e i h = absurd i
-step_lent_lem d b y now m log (live x buf) n w f (Busy r) rest true e i h = by (may_step b r) (eqb (length now) r.request.length) h
+step_lent_lem d b y now m log l n w f None rest true e i h = step_refused d b y now m log l n w f None rest State refl i
+step_lent_lem d b y now m log no_transfer n w f (Some r) rest true e i h = absurd i
+step_lent_lem d b y now m log (live x buf) n w f (Some r) rest true e i h = by (may_step b r) (eqb (length now) r.request.length) h
   where
-    by : (p q : Bool) → Ok d b y now m log n w f x buf rest (step_if p q r y now m)
-    by false q k = step_refused d b y now m log (live x buf) n w f (Busy r) rest State refl i
-    by true false k = step_refused d b y now m log (live x buf) n w f (Busy r) rest LentMemory refl i
+    by : (p q : Bool) → Fine d b y now m log n w f x buf rest (step_if p q r y now m)
+    by false q k = step_refused d b y now m log (live x buf) n w f (Some r) rest State refl i
+    by true false k = step_refused d b y now m log (live x buf) n w f (Some r) rest LentMemory refl i
     by true true k = step_acts d b y now m log x buf n w f r rest (lent_sizes m log e).0 i k
 
-pub step_kept : (d : Driver) (b : Bool) (y : Sample) (now m log : List ℕ) (l : Live) (n : ℕ) (w : Watch) (f : File) (t : Transfer) (rest : List Entry)
+pub step_kept : (d : Driver) (b : Bool) (y : Sample) (now m log : List ℕ) (l : Live) (n : ℕ) (w : Watch) (f : File) (t : Option Run) (rest : List Entry)
     → Inv l n w f t rest
     → CallGood (note_step (step_of b t y now m log).answer y now) l n w (events f (step_of b t y now m log).writes) → Kept l n w f rest (step b y now m log) (steps d b y now m log (step_of b t y now m log))
 unfolding step_of

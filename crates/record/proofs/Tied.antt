@@ -5,6 +5,7 @@ use Prim.Native.Nat.{ℕ}
 use native.Mathlib.Omega.{arith}
 use lib.ListN.{length}
 use Rattle.transfers.specs.declared.control.Begun.{Begun}
+use Rattle.transfers.specs.declared.driver.Driver.{Driver}
 use Rattle.transfers.specs.declared.control.Stepped.{Stepped}
 use Rattle.transfers.specs.Log.{Write, Wrote}
 use Rattle.record.specs.Calls.{call}
@@ -16,7 +17,7 @@ said l l' ws k h = let z = h.count in omega arith
 pub tied : Ties
 unfolding call
 tied = record {
-  begins = λ d x buf m log r m' l' h. (h.result, ap (λ (r : Begun). r.next) h.result, ap (λ (r : Begun). r.answer) h.result, ap (λ (r : Begun). r.armed) h.result, h.memory, h.log);
+  begins = λ d x buf m log r m' l' h. (h.result, ap (λ (r : Begun Driver). r.next) h.result, ap (λ (r : Begun Driver). r.answer) h.result, ap (λ (r : Begun Driver). r.armed) h.result, h.memory, h.log);
   steps = λ d b y buf m log r m' l' h.
       (h.result, ap (λ (r : Stepped). r.next) h.result, ap (λ (r : Stepped). r.answer) h.result, ap (λ (r : Stepped). r.armed) h.result, ap (λ (r : Stepped). r.failed) h.result, h.memory, h.log);
   cancels = λ d. (refl, refl, refl);

@@ -1,5 +1,6 @@
 -- The check answers what the bytes deserve, and nothing else is deserved.
 -- Assumes nothing.
+use Rattle.std.specs.Prelude.{Err, None, Ok, Option, Result, Some}
 use mathlib.Core.Path.{◌≡◌, refl, sym, ap, ap₂, ◌∙◌, subst}
 use mathlib.Core.Logic.{inl, inr}
 use mathlib.Core.Bool.{Bool, true, false, not, cond, ◌&&◌, ◌||◌}
@@ -18,19 +19,15 @@ use Rattle.record.specs.Segments.{Element, entry, failed_entry, FirstPart, Segme
 use Rattle.record.specs.Bytes.{head_for, flag_byte, four_of, encode_element, encode_elements}
 use Rattle.record.specs.Scan.{Ends, AllInRange}
 use Rattle.record.specs.Place.{feed_element, run_after, count_after, Place, Reach, at, refused, reach, feed_elements, start, ElementsInRange}
-use Rattle.record.specs.Reader.{version_at, head_right, look, finish, go_on, turn_look, turn_of, read_from, at_head, check_of}
+use Rattle.record.specs.Reader.{version_at, head_right, look, finish, go_on, turned, turn_look, turn_of, read_from, at_head, check_of}
 use Rattle.record.specs.Verdict.{version_number, record_in, Ranged, AllRanged, Reads, Viable, NoWayOn, Verdict, no_head, no_entry, no_way_on, unfinished, is_whole}
 use Rattle.record.specs.declared.refusal.Refusal.TheVariants.{Mark as bad_mark, Field, Grammar}
 use Rattle.record.specs.declared.scan.Scan.{Scan}
 use Rattle.record.specs.declared.scan.Scan.TheVariants.{Between as between, AfterSetup as after_setup, InBulk as in_bulk, InControl as in_control_of}
-use Rattle.record.specs.declared.scan.OptionScan.{OptionScan}
-use Rattle.record.specs.declared.scan.OptionScan.TheVariants.{Some as some, None as none}
 use Rattle.record.specs.declared.look.Look.{Look}
-use Rattle.record.specs.declared.look.Look.TheVariants.{Failed, Bad, End}
-use Rattle.record.specs.declared.reader.CheckAnswer.{CheckAnswer}
-use Rattle.record.specs.declared.reader.CheckAnswer.TheVariants.{Transfers, Refused}
+use Rattle.record.specs.declared.look.Look.TheVariants.{Failed}
 use Rattle.record.specs.declared.reader.Progress.{Progress}
-use Rattle.record.specs.declared.reader.Turn.TheVariants.{Go, Stop}
+use Rattle.std.proofs.Common.{Continue, Break}
 use Rattle.record.proofs.Both.{absurd-eq, and_left, and_right}
 use Rattle.record.proofs.OneReading.{no_count}
 use Rattle.record.proofs.Placing.{reader, feed_elements_append}
@@ -39,8 +36,9 @@ use Rattle.record.proofs.Encoding.{elements_append, element_one}
 use Rattle.record.proofs.Looking.{Seen, seen_end, seen_bad, seen_setup, seen_out, seen_failed, seen}
 use Rattle.record.proofs.Turns.{read_go, read_stop}
 use Rattle.record.proofs.Decoding.{Decoded, look_element, look_element_lem, drop_element, turn_element, bytes_drop, setup_decoded, out_decoded, failed_decoded}
+use Rattle.record.specs.declared.refusal.Refusal.{Refusal}
 
-abbrev pub Deserved : List ℕ → CheckAnswer → Type 0
+abbrev pub Deserved : List ℕ → Result ℕ Refusal → Type 0
 Deserved s a = Verdict s (check_reply a)
 
 -- ---- the head
@@ -198,15 +196,15 @@ run (x ∷ ms) s two p f rest q d h e = go (feed_element p.scan p.run x) refl (�
     k : drop p.at s ≡ encode_element x ++ (encode_elements ms ++ rest)
     k = d ∙ append_assoc (encode_element x) (encode_elements ms) rest
 
-    go : (o : OptionScan) → feed_element p.scan p.run x ≡ o
+    go : (o : Option Scan) → feed_element p.scan p.run x ≡ o
         → ((n : Progress) → drop n.at s ≡ encode_elements ms ++ rest → feed_elements (at (place_of n)) ms ≡ at q → read_from (length ms + f) s two n ≡ read_from f s two (landed n ms q))
         → read_from (length (x ∷ ms) + f) s two p ≡ read_from f s two (landed p (x ∷ ms) q)
-    go none w ih = refused_at ms q (subst (λ (o : OptionScan). feed_elements (reach o (run_after p.scan p.run x) (count_after p.scan p.count x)) ms ≡ at q) w e)
-    go (some u) w ih =
+    go None w ih = refused_at ms q (subst (λ (o : Option Scan). feed_elements (reach o (run_after p.scan p.run x) (count_after p.scan p.count x)) ms ≡ at q) w e)
+    go (Some u) w ih =
         let n : Progress = record { at = p.at + length (encode_element x); scan = u; run = run_after p.scan p.run x; count = count_after p.scan p.count x } in
-        let t : turn_of s two p ≡ Go n = turn_element s two p x (encode_elements ms ++ rest) k h.0.0 h.0.1
-        ∙ ap (λ (o : OptionScan). go_on o (p.at + length (encode_element x)) (run_after p.scan p.run x) (count_after p.scan p.count x)) w in
-        let g = subst (λ (o : OptionScan). feed_elements (reach o (run_after p.scan p.run x) (count_after p.scan p.count x)) ms ≡ at q) w e in
+        let t : turn_of s two p ≡ Continue n = turn_element s two p x (encode_elements ms ++ rest) k h.0.0 h.0.1
+        ∙ ap (λ (o : Option Scan). turned (go_on o (p.at + length (encode_element x)) (run_after p.scan p.run x) (count_after p.scan p.count x))) w in
+        let g = subst (λ (o : Option Scan). feed_elements (reach o (run_after p.scan p.run x) (count_after p.scan p.count x)) ms ≡ at q) w e in
         let r = ih n (after_element s p.at x (encode_elements ms ++ rest) k) g in
         let a = length-append (encode_element x) (encode_elements ms) in
         let m : suc (length ms + f) ≡ length (x ∷ ms) + f = omega arith in
@@ -230,14 +228,14 @@ record Come (s : List ℕ) (two : Bool) (p : Progress) : Type 0 where
   fed : feed_elements (at start) done ≡ at (place_of p)
 
 come_on : (s : List ℕ) (two : Bool) (p : Progress) → Come s two p → (m : Element) (post : List ℕ) (u : Scan) → Ranged two m → drop p.at s ≡ encode_element m ++ post
-    → feed_element p.scan p.run m ≡ some u
+    → feed_element p.scan p.run m ≡ Some u
     → Come s two (record { at = p.at + length (encode_element m); scan = u; run = run_after p.scan p.run m; count = count_after p.scan p.count m })
 come_on s two p c m post u h q w = record {
   done = c.done ++ (m ∷ []);
   is = c.is ∙ ap (λ (l : List ℕ). record_in two c.done ++ l) q ∙ record_snoc two c.done m post ∙ ap (λ (l : List ℕ). record_in two (c.done ++ (m ∷ [])) ++ l) (sym (after_element s p.at m post q));
   ranged = all_append two c.done (m ∷ []) c.ranged (h, tt);
   fed = feed_elements_append (at start) c.done (m ∷ []) ∙ ap (λ (o : Reach). feed_elements o (m ∷ [])) c.fed
-      ∙ ap (λ (o : OptionScan). reach o (run_after p.scan p.run m) (count_after p.scan p.count m)) w;
+      ∙ ap (λ (o : Option Scan). reach o (run_after p.scan p.run m) (count_after p.scan p.count m)) w;
 }
 
 at_same : (p q : Place) → at p ≡ at q → p ≡ q
@@ -247,8 +245,8 @@ at_same p q e = cc
 count_is : (ms : List Element) (k : Reading ms) (p : Place) → feed_elements (at start) ms ≡ at p → p.count ≡ length (unfailed k.segments k.last)
 count_is ms k p f = let t = reader.takes_all ms k in ap (λ (q : Place). q.count) (at_same p t.0 (sym f ∙ t.1)) ∙ t.3
 
-ends_is : (ms : List Element) (k : Reading ms) (p : Place) → feed_elements (at start) ms ≡ at p → Ends (some p.scan)
-ends_is ms k p f = let t = reader.takes_all ms k in subst (λ (q : Place). Ends (some q.scan)) (sym (at_same p t.0 (sym f ∙ t.1))) t.2
+ends_is : (ms : List Element) (k : Reading ms) (p : Place) → feed_elements (at start) ms ≡ at p → Ends (Some p.scan)
+ends_is ms k p f = let t = reader.takes_all ms k in subst (λ (q : Place). Ends (Some q.scan)) (sym (at_same p t.0 (sym f ∙ t.1))) t.2
 
 at_end : (s : List ℕ) (two : Bool) (st : Scan) (r k : ℕ) (ms : List Element) → s ≡ record_in two ms → AllRanged two ms → feed_elements (at start) ms ≡ at (record { scan = st; run = r; count = k })
     → Deserved s (finish st k)
@@ -271,12 +269,12 @@ nil_of : (l : List ℕ) → length l ≡ 0 → l ≡ []
 nil_of [] e = refl
 nil_of (x ∷ l) e = absurd (omega arith)
 
-no_look : (m : Element) → look_element m ≡ Bad → ⊥
+no_look : (m : Element) → look_element m ≡ Err Field → ⊥
 no_look (entry (setup a lo hi)) q = absurd-eq (cc)
 no_look (entry (out a e b last l)) q = absurd-eq (cc)
 no_look (failed_entry m) q = absurd-eq (cc)
 
-look_nil : look [] ≡ Bad → ⊥
+look_nil : look [] ≡ Err Field → ⊥
 unfolding look
 look_nil q = absurd-eq (cc)
 
@@ -285,11 +283,11 @@ encode_some (entry (setup a lo hi)) = omega arith
 encode_some (entry (out a e b last l)) = omega arith
 encode_some (failed_entry m) = omega arith
 
-turn_at : (s : List ℕ) (two : Bool) (p : Progress) (y : Look) → look (drop p.at s) ≡ y → turn_of s two p ≡ turn_look two y p
+turn_at : (s : List ℕ) (two : Bool) (p : Progress) (y : Result (Option Look) Refusal) → look (drop p.at s) ≡ y → turn_of s two p ≡ turn_look two y p
 unfolding turn_of
-turn_at s two p y q = ap (λ (v : Look). turn_look two v p) q
+turn_at s two p y q = ap (λ (v : Result (Option Look) Refusal). turn_look two v p) q
 
-no_way_on_lem : (s : List ℕ) (two : Bool) (p : Progress) → Come s two p → (m : Element) (post : List ℕ) → Ranged two m → drop p.at s ≡ encode_element m ++ post → feed_element p.scan p.run m ≡ none → NoWayOn s
+no_way_on_lem : (s : List ℕ) (two : Bool) (p : Progress) → Come s two p → (m : Element) (post : List ℕ) → Ranged two m → drop p.at s ≡ encode_element m ++ post → feed_element p.scan p.run m ≡ None → NoWayOn s
 no_way_on_lem s two p c m post h q w = record {
   two = two;
   ms = c.done;
@@ -300,15 +298,15 @@ no_way_on_lem s two p c m post h q w = record {
   last_ranged = h;
   viable = viable_of two c.done (place_of p) c.ranged c.fed;
   stuck = λ v. reader.refuses (c.done ++ (m ∷ [])) v.after
-      (feed_elements_append (at start) c.done (m ∷ []) ∙ ap (λ (o : Reach). feed_elements o (m ∷ [])) c.fed ∙ ap (λ (o : OptionScan). reach o (run_after p.scan p.run m) (count_after p.scan p.count m)) w)
+      (feed_elements_append (at start) c.done (m ∷ []) ∙ ap (λ (o : Reach). feed_elements o (m ∷ [])) c.fed ∙ ap (λ (o : Option Scan). reach o (run_after p.scan p.run m) (count_after p.scan p.count m)) w)
       v.reads.reading;
 }
 
 -- In version 1 a count is no entry.
-not_entry : (l : List ℕ) (v : ℕ) → look l ≡ Failed v → (m : Element) (r : List ℕ) → Ranged false m → l ≡ encode_element m ++ r → ⊥
+not_entry : (l : List ℕ) (v : ℕ) → look l ≡ Ok (Some (Failed v)) → (m : Element) (r : List ℕ) → Ranged false m → l ≡ encode_element m ++ r → ⊥
 not_entry l v q (entry e) r h z = no e (sym (look_element_lem (entry e) r h.0) ∙ ap look (sym z) ∙ q)
   where
-    no : (e : Entry) → look_element (entry e) ≡ Failed v → ⊥
+    no : (e : Entry) → look_element (entry e) ≡ Ok (Some (Failed v)) → ⊥
     no (setup a lo hi) k = absurd-eq (cc)
     no (out a e b last l) k = absurd-eq (cc)
 not_entry l v q (failed_entry m) r h z = let y : false ≡ true = h.1 in absurd-eq (cc)
@@ -326,16 +324,16 @@ exact_from (suc f) s two p b h i c = go two c (seen (drop p.at s)) (λ two n h' 
     at_element : (two : Bool) → Come s two p → Decoded two l → Later → Deserved s (read_from (suc f) s two p)
     at_element two c d ih = fork (feed_element p.scan p.run d.element) refl
       where
-        t : turn_of s two p ≡ go_on (feed_element p.scan p.run d.element) (p.at + length (encode_element d.element)) (run_after p.scan p.run d.element) (count_after p.scan p.count d.element)
+        t : turn_of s two p ≡ turned (go_on (feed_element p.scan p.run d.element) (p.at + length (encode_element d.element)) (run_after p.scan p.run d.element) (count_after p.scan p.count d.element))
         t = turn_element s two p d.element d.rest d.is d.ranged d.version
 
-        fork : (o : OptionScan) → feed_element p.scan p.run d.element ≡ o → Deserved s (read_from (suc f) s two p)
-        fork none w =
+        fork : (o : Option Scan) → feed_element p.scan p.run d.element ≡ o → Deserved s (read_from (suc f) s two p)
+        fork None w =
             no_way_on (no_way_on_lem s two p c d.element d.rest (d.ranged, d.version) d.is w)
-            (ap check_reply (read_stop f s two p (Refused Grammar) (t ∙ ap (λ (o : OptionScan). go_on o (p.at + length (encode_element d.element)) (run_after p.scan p.run d.element) (count_after p.scan p.count d.element)) w)))
-        fork (some u) w =
+            (ap check_reply (read_stop f s two p (Err Grammar) (t ∙ ap (λ (o : Option Scan). turned (go_on o (p.at + length (encode_element d.element)) (run_after p.scan p.run d.element) (count_after p.scan p.count d.element))) w)))
+        fork (Some u) w =
             let n : Progress = record { at = p.at + length (encode_element d.element); scan = u; run = run_after p.scan p.run d.element; count = count_after p.scan p.count d.element } in
-            let g : turn_of s two p ≡ Go n = t ∙ ap (λ (o : OptionScan). go_on o (p.at + length (encode_element d.element)) (run_after p.scan p.run d.element) (count_after p.scan p.count d.element)) w in
+            let g : turn_of s two p ≡ Continue n = t ∙ ap (λ (o : Option Scan). turned (go_on o (p.at + length (encode_element d.element)) (run_after p.scan p.run d.element) (count_after p.scan p.count d.element))) w in
             let e = encode_some d.element in
             let v' = length-drop p.at s in
             let z = ap length d.is ∙ length-append (encode_element d.element) d.rest in
@@ -343,7 +341,7 @@ exact_from (suc f) s two p b h i c = go two c (seen (drop p.at s)) (λ two n h' 
 
     go : (two : Bool) → Come s two p → Seen l (look l) → Later → Deserved s (read_from (suc f) s two p)
     go two c (seen_end z q) ih =
-        subst (Deserved s) (sym (read_stop f s two p (finish p.scan p.count) (turn_at s two p End q)))
+        subst (Deserved s) (sym (read_stop f s two p (finish p.scan p.count) (turn_at s two p (Ok None) q)))
         (at_end s two p.scan p.run p.count c.done (c.is ∙ ap (λ (v : List ℕ). record_in two c.done ++ v) (nil_of l z) ∙ append-nil (record_in two c.done)) c.ranged c.fed)
     go two c (seen_bad q) ih =
         no_entry (record {
@@ -353,10 +351,10 @@ exact_from (suc f) s two p b h i c = go two c (seen (drop p.at s)) (λ two n h' 
           is = c.is;
           ranged = c.ranged;
           viable = viable_of two c.done (place_of p) c.ranged c.fed;
-          more = λ z. look_nil (subst (λ (v : List ℕ). look v ≡ Bad) z q);
-          no_entry_of = λ m r h z. no_look m (sym (look_element_lem m r h.0) ∙ subst (λ (v : List ℕ). look v ≡ Bad) z q);
+          more = λ z. look_nil (subst (λ (v : List ℕ). look v ≡ Err Field) z q);
+          no_entry_of = λ m r h z. no_look m (sym (look_element_lem m r h.0) ∙ subst (λ (v : List ℕ). look v ≡ Err Field) z q);
         })
-        (ap check_reply (read_stop f s two p (Refused Field) (turn_at s two p Bad q)))
+        (ap check_reply (read_stop f s two p (Err Field) (turn_at s two p (Err Field) q)))
     go two c (seen_setup k m a q) ih = at_element two c (setup_decoded two l (bytes_drop p.at s b) k m a) ih
     go two c (seen_out m q) ih = at_element two c (out_decoded two l (bytes_drop p.at s b) m) ih
     go true c (seen_failed k m q) ih = at_element true c (failed_decoded l (bytes_drop p.at s b) k m) ih
@@ -371,7 +369,7 @@ exact_from (suc f) s two p b h i c = go two c (seen (drop p.at s)) (λ two n h' 
           more = λ z. let y : length l ≡ 0 = ap length z in omega (arith, y, m);
           no_entry_of = not_entry l _ q;
         })
-        (ap check_reply (read_stop f s false p (Refused Field) (turn_at s false p (Failed _) q)))
+        (ap check_reply (read_stop f s false p (Err Field) (turn_at s false p (Ok (Some (Failed _))) q)))
 
 none_yet : (two : Bool) (r : List ℕ) → head_for (version_number two) ++ r ≡ record_in two [] ++ r
 unfolding record_in encode_elements
@@ -439,58 +437,58 @@ arrive s two ms rest p q h f =
     record {
       fuel = length s - length ms;
       same =
-          ap₂ (λ (b v : Bool). cond b (read_from (suc (length s)) s v at_head) (Refused bad_mark)) (ap head_right q₁ ∙ head_right_lem two (encode_elements ms ++ rest))
+          ap₂ (λ (b v : Bool). cond b (read_from (suc (length s)) s v at_head) (Err bad_mark)) (ap head_right q₁ ∙ head_right_lem two (encode_elements ms ++ rest))
           (ap (λ (l : List ℕ). eqb (version_at l) 2) q₁ ∙ version_at_lem two (encode_elements ms ++ rest))
           ∙ ap (λ (m : ℕ). read_from m s two at_head) n ∙ run ms s two at_head (suc (length s - length ms)) rest p d h f;
       left = sym (drop-drop (length (encode_elements ms)) 5 s) ∙ ap (λ (l : List ℕ). drop (length (encode_elements ms)) l) d ∙ drop-append_seam (encode_elements ms) rest;
     }
 
-finish_open : (st : Scan) (k : ℕ) → (Ends (some st) → ⊥) → finish st k ≡ Refused Grammar
+finish_open : (st : Scan) (k : ℕ) → (Ends (Some st) → ⊥) → finish st k ≡ Err Grammar
 finish_open between k h = absurd (h tt)
 finish_open (after_setup a w) k h = absurd (h tt)
 finish_open (in_bulk a e q p t) k h = refl
 finish_open (in_control_of a w q p t) k h = refl
 
-finish_whole : (st : Scan) (k : ℕ) → Ends (some st) → finish st k ≡ Transfers k
+finish_whole : (st : Scan) (k : ℕ) → Ends (Some st) → finish st k ≡ Ok k
 finish_whole between k h = refl
 finish_whole (after_setup a w) k h = refl
 finish_whole (in_bulk a e q p t) k h = absurd h
 finish_whole (in_control_of a w q p t) k h = absurd h
 
-look_end : look [] ≡ End
+look_end : look [] ≡ Ok None
 unfolding look
 look_end = refl
 
 at_the_end : (s : List ℕ) (two : Bool) (ms : List Element) (p : Place) → Arrived s two ms [] p → check_of s ≡ finish p.scan p.count
 at_the_end s two ms p r =
     let q = landed at_head ms p in
-    r.same ∙ read_stop r.fuel s two q (finish p.scan p.count) (turn_at s two q End (ap look r.left ∙ look_end))
+    r.same ∙ read_stop r.fuel s two q (finish p.scan p.count) (turn_at s two q (Ok None) (ap look r.left ∙ look_end))
 
-check_unmarked : (s : List ℕ) → head_right s ≡ false → check_of s ≡ Refused bad_mark
+check_unmarked : (s : List ℕ) → head_right s ≡ false → check_of s ≡ Err bad_mark
 unfolding check_of
 check_unmarked s h = rw h
 
-stuck_none : (two : Bool) (ms : List Element) (m : Element) (p : Place) → AllRanged two ms → Ranged two m → feed_elements (at start) ms ≡ at p → (Viable two (ms ++ (m ∷ [])) → ⊥) → feed_element p.scan p.run m ≡ none
+stuck_none : (two : Bool) (ms : List Element) (m : Element) (p : Place) → AllRanged two ms → Ranged two m → feed_elements (at start) ms ≡ at p → (Viable two (ms ++ (m ∷ [])) → ⊥) → feed_element p.scan p.run m ≡ None
 stuck_none two ms m p h k f n = go (feed_element p.scan p.run m) refl
   where
-    go : (o : OptionScan) → feed_element p.scan p.run m ≡ o → feed_element p.scan p.run m ≡ none
-    go none w = w
-    go (some u) w =
+    go : (o : Option Scan) → feed_element p.scan p.run m ≡ o → feed_element p.scan p.run m ≡ None
+    go None w = w
+    go (Some u) w =
         absurd (n (viable_of two (ms ++ (m ∷ [])) (record { scan = u; run = run_after p.scan p.run m; count = count_after p.scan p.count m }) (all_append two ms (m ∷ []) h (k, tt))
-        (feed_elements_append (at start) ms (m ∷ []) ∙ ap (λ (o : Reach). feed_elements o (m ∷ [])) f ∙ ap (λ (o : OptionScan). reach o (run_after p.scan p.run m) (count_after p.scan p.count m)) w)))
+        (feed_elements_append (at start) ms (m ∷ []) ∙ ap (λ (o : Reach). feed_elements o (m ∷ [])) f ∙ ap (λ (o : Option Scan). reach o (run_after p.scan p.run m) (count_after p.scan p.count m)) w)))
 
 -- Where the reader sees no entry of the version it stops with 19.
 bad_turn : (s : List ℕ) (two : Bool) (p : Progress) (l : List ℕ) → drop p.at s ≡ l → Bytes l → (l ≡ [] → ⊥) → ((m : Element) (r : List ℕ) → Ranged two m → l ≡ encode_element m ++ r → ⊥)
-    → turn_of s two p ≡ Stop (Refused Field)
+    → turn_of s two p ≡ Break (Err Field)
 bad_turn s two p l e b m n = go two n (seen l)
   where
-    go : (two : Bool) → ((m : Element) (r : List ℕ) → Ranged two m → l ≡ encode_element m ++ r → ⊥) → Seen l (look l) → turn_of s two p ≡ Stop (Refused Field)
+    go : (two : Bool) → ((m : Element) (r : List ℕ) → Ranged two m → l ≡ encode_element m ++ r → ⊥) → Seen l (look l) → turn_of s two p ≡ Break (Err Field)
     go two n (seen_end z q) = absurd (m (nil_of l z))
-    go two n (seen_bad q) = turn_at s two p Bad (ap look e ∙ q)
+    go two n (seen_bad q) = turn_at s two p (Err Field) (ap look e ∙ q)
     go two n (seen_setup k j a q) = let d = setup_decoded two l b k j a in absurd (n d.element d.rest (d.ranged, d.version) d.is)
     go two n (seen_out j q) = let d = out_decoded two l b j in absurd (n d.element d.rest (d.ranged, d.version) d.is)
     go true n (seen_failed k j q) = let d = failed_decoded l b k j in absurd (n d.element d.rest (d.ranged, d.version) d.is)
-    go false n (seen_failed k j q) = turn_at s false p (Failed _) (ap look e ∙ q)
+    go false n (seen_failed k j q) = turn_at s false p (Ok (Some (Failed _))) (ap look e ∙ q)
 
 bytes_left : (a b : List ℕ) → Bytes (a ++ b) → Bytes a
 bytes_left [] b h = tt
@@ -570,18 +568,18 @@ reads_ranged false ms r =
     plain_true ms h (subst Plain e (plain_append [] (parts_entries k.last) tt))
 
 -- Every encoding of a record of the grammar is accepted, with as many transfers as didn't fail.
-pub accepts : (s : List ℕ) (two : Bool) (ms : List Element) → s ≡ record_in two ms → (r : Reads two ms) → check_of s ≡ Transfers (length (unfailed r.reading.segments r.reading.last))
+pub accepts : (s : List ℕ) (two : Bool) (ms : List Element) → s ≡ record_in two ms → (r : Reads two ms) → check_of s ≡ Ok (length (unfailed r.reading.segments r.reading.last))
 accepts s two ms q r =
     let h = reads_ranged two ms r in
     let f = fed_of two ms (record { after = []; reads = subst (Reads two) (sym (append-nil ms)) r }) in
     let z = arrive s two ms [] f.0 (q ∙ sym (append-nil (record_in two ms))) h f.1 in
-    at_the_end s two ms f.0 z ∙ finish_whole f.0.scan f.0.count (ends_is ms r.reading f.0 f.1) ∙ ap Transfers (count_is ms r.reading f.0 f.1)
+    at_the_end s two ms f.0 z ∙ finish_whole f.0.scan f.0.count (ends_is ms r.reading f.0 f.1) ∙ ap Ok (count_is ms r.reading f.0 f.1)
 
 -- An answer that the bytes deserve is the check's.
 pub only_deserved : (s : List ℕ) (a : Reply ℕ) → Bytes s → Verdict s a → check_reply (check_of s) ≡ a
 only_deserved s a b (no_head u q) = ap check_reply unmarked ∙ sym q
   where
-    unmarked : check_of s ≡ Refused bad_mark
+    unmarked : check_of s ≡ Err bad_mark
     unmarked = by_cases (head_right s)
         (λ (h : head_right s ≡ true). let k = head_is s b h in absurd (u.no_head_of k.two (drop 5 s) k.is))
         (λ (h : head_right s ≡ false). check_unmarked s h)
@@ -590,7 +588,7 @@ only_deserved s a b (no_entry u q) =
     let r = arrive s u.two u.ms u.rest f.0 u.is u.ranged f.1 in
     let p = landed at_head u.ms f.0 in
     let br : Bytes u.rest = subst Bytes r.left (bytes_drop (5 + length (encode_elements u.ms)) s b) in
-    ap check_reply (r.same ∙ read_stop r.fuel s u.two p (Refused Field) (bad_turn s u.two p u.rest r.left br u.more u.no_entry_of)) ∙ sym q
+    ap check_reply (r.same ∙ read_stop r.fuel s u.two p (Err Field) (bad_turn s u.two p u.rest r.left br u.more u.no_entry_of)) ∙ sym q
 only_deserved s a b (no_way_on u q) =
     let f = fed_of u.two u.ms u.viable in
     let r = arrive s u.two u.ms (encode_element u.m ++ u.rest) f.0 u.is u.ranged f.1 in
@@ -598,14 +596,14 @@ only_deserved s a b (no_way_on u q) =
     let w = stuck_none u.two u.ms u.m f.0 u.ranged u.last_ranged f.1 u.stuck in
     let t = turn_element s u.two p u.m u.rest r.left u.last_ranged.0 u.last_ranged.1 in
     ap check_reply (r.same
-    ∙ read_stop r.fuel s u.two p (Refused Grammar) (t ∙ ap (λ (o : OptionScan). go_on o (p.at + length (encode_element u.m)) (run_after p.scan p.run u.m) (count_after p.scan p.count u.m)) w))
+    ∙ read_stop r.fuel s u.two p (Err Grammar) (t ∙ ap (λ (o : Option Scan). turned (go_on o (p.at + length (encode_element u.m)) (run_after p.scan p.run u.m) (count_after p.scan p.count u.m))) w))
     ∙ sym q
 only_deserved s a b (unfinished u q) =
     let f = fed_of u.two u.ms u.viable in
     let r = arrive s u.two u.ms [] f.0 (u.is ∙ sym (append-nil (record_in u.two u.ms))) u.ranged f.1 in
     ap check_reply (at_the_end s u.two u.ms f.0 r
     ∙ finish_open f.0.scan f.0.count
-    (λ (z : Ends (some f.0.scan)). u.unread (reads_of u.two u.ms u.ranged (reader.takes_only u.ms f.0 (in_range u.two u.ms u.ranged) f.1 z))))
+    (λ (z : Ends (Some f.0.scan)). u.unread (reads_of u.two u.ms u.ranged (reader.takes_only u.ms f.0 (in_range u.two u.ms u.ranged) f.1 z))))
     ∙ sym q
 only_deserved s a b (is_whole u q) = ap check_reply (accepts s u.two u.ms u.is u.reads) ∙ sym q
 
@@ -614,7 +612,7 @@ pub one_verdict : (s : List ℕ) (a b : Reply ℕ) → Bytes s → Verdict s a �
 one_verdict s a b h v w = sym (only_deserved s a h v) ∙ only_deserved s b h w
 
 -- What `check` promises.
-pub verdict_of : (s : List ℕ) (a : CheckAnswer) → a ≡ check_of s → Bytes s → Deserved s a
+pub verdict_of : (s : List ℕ) (a : Result ℕ Refusal) → a ≡ check_of s → Bytes s → Deserved s a
 verdict_of s a e b = subst (Deserved s) (sym e) (deserved s b)
 
 -- ---- a record of the grammar is bytes, so an answer that it deserves is the check's

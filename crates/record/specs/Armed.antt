@@ -1,14 +1,11 @@
 -- The entries of what begin and step answer that they armed.
-use Rattle.std.specs.Prelude.{List, [], ◌∷◌, ◌++◌, ℕ, ◌/◌, ◌%◌, take, drop}
+use Rattle.std.specs.Prelude.{List, [], ◌∷◌, ◌++◌, ℕ, ◌/◌, ◌%◌, take, drop, None, Option, Some}
 use Rattle.transfers.specs.declared.wire.SetupPacket.{SetupPacket}
 use Rattle.transfers.specs.declared.answers.Armed.{Armed}
 use Rattle.transfers.specs.declared.answers.ArmedOut.{ArmedOut}
-use Rattle.transfers.specs.declared.answers.OptionSetup.{OptionSetup}
-use Rattle.transfers.specs.declared.answers.OptionSetup.TheVariants.{Some as some_setup, None as no_setup}
-use Rattle.transfers.specs.declared.answers.OptionOut.{OptionOut}
-use Rattle.transfers.specs.declared.answers.OptionOut.TheVariants.{Some as some_out, None as no_out}
 use Rattle.record.specs.Chip.{slot_place}
 use Rattle.record.specs.Grammar.{Four, four, Entry, setup, out}
+use Rattle.transfers.specs.declared.answers.ArmedSetup.{ArmedSetup}
 
 -- USB 2.0 table 9-2: the SETUP's eight bytes, low byte first.
 abbrev pub low_bytes : SetupPacket → Four
@@ -27,14 +24,14 @@ abbrev pub entry_armed : List ℕ → ArmedOut → Entry
 entry_armed m x = out x.address x.endpoint x.arm.pid x.arm.last (take x.arm.length (drop (slot_place x.arm.slot) m))
 
 -- The SETUP that was armed.
-abbrev pub setups_armed : OptionSetup → List Entry
-setups_armed no_setup = []
-setups_armed (some_setup x) = setup_entry x.address x.setup ∷ []
+abbrev pub setups_armed : Option ArmedSetup → List Entry
+setups_armed None = []
+setups_armed (Some x) = setup_entry x.address x.setup ∷ []
 
 -- An OUT packet that was armed.
-abbrev pub outs_armed : List ℕ → OptionOut → List Entry
-outs_armed m no_out = []
-outs_armed m (some_out x) = entry_armed m x ∷ []
+abbrev pub outs_armed : List ℕ → Option ArmedOut → List Entry
+outs_armed m None = []
+outs_armed m (Some x) = entry_armed m x ∷ []
 
 -- All that a call says that it armed, in order.
 abbrev pub entries_armed : List ℕ → Armed → List Entry

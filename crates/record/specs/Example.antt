@@ -1,5 +1,5 @@
 -- Document 01's two transfers as calls, logs, record, bytes and reading; then four transfers of which two fail. Each line is computed by the checker.
-use Rattle.std.specs.Prelude.{◌≡◌, refl, true, false, List, [], ◌∷◌, ◌++◌, map, ℕ, replicate}
+use Rattle.std.specs.Prelude.{◌≡◌, refl, true, false, List, [], ◌∷◌, ◌++◌, map, ℕ, replicate, Option, Some, None}
 use Rattle.cutting.specs.declared.transfer_type.TransferType.TheVariants.{FixedSize}
 use Rattle.cutting.specs.Counters.{in_next, out_next}
 use Rattle.transfers.specs.declared.driver.DeskRule.TheVariants.{One}
@@ -33,7 +33,7 @@ use Rattle.record.specs.Reader.{check_of, read_from, turn_of, head_right, versio
 use Rattle.record.specs.Items.{first_at, items_from, item_at, sent_at, group_at_of, group_from, group_of, failed_at}
 use Rattle.record.specs.Refusal.{check_reply}
 use Rattle.record.specs.declared.items.ItemAnswer.{ItemAnswer}
-use Rattle.record.specs.declared.items.ItemAnswer.TheVariants.{Control, Bulk, Failed as failed_item, End as no_item}
+use Rattle.record.specs.declared.items.ItemAnswer.TheVariants.{Control, Bulk, Failed as failed_item}
 
 -- ---- what is lent and sampled
 
@@ -92,11 +92,11 @@ abbrev pub two_bytes : ℕ → List ℕ
 two_bytes v = 0x57 ∷ 0x4C ∷ 0x47 ∷ v ∷ 0 ∷ 0x53 ∷ 5 ∷ 0 ∷ 9 ∷ 1 ∷ 0 ∷ 0 ∷ 0 ∷ 0 ∷ 0 ∷ 0x4F ∷ 5 ∷ 2 ∷ 0 ∷ 1 ∷ 3 ∷ 0xAA ∷ 0xBB ∷ 0xCC ∷ []
 
 -- "control 5 0009010000000000 0" and "bulk 5 2 0 3": the SETUP bytes stand from place 7 on.
-abbrev pub two_items : List ItemAnswer
+abbrev pub two_items : List (Option ItemAnswer)
 two_items =
-    Control (record { address = 5; setup = 7; count = 0; next = record { at = 15 } })
-    ∷ Bulk (record { address = 5; endpoint = 2; pid = false; count = 3; next = record { at = 24 } })
-    ∷ no_item
+    Some (Control (record { address = 5; setup = 7; count = 0; next = record { at = 15 } }))
+    ∷ Some (Bulk (record { address = 5; endpoint = 2; pid = false; count = 3; next = record { at = 24 } }))
+    ∷ None
     ∷ []
 
 -- The control's log: EPX_CONTROL, EP_BUFFER_CONTROL, SETUP_PACKET_LOW and HIGH, SIE_STATUS, ADDR_ENDP, SEND_SETUP, a delay, START_TRANS. The bulk OUT's: the head
@@ -222,11 +222,11 @@ pub record FourTransfers : Type 0 where
   pub bytes : record_of four_elements ≡ four_bytes
   pub count : check_reply (check_of four_bytes) ≡ result 2
   pub items : items_from 5 four_bytes first_at
-      ≡ failed_item (record { at = 26 })
-      ∷ Control (record { address = 5; setup = 28; count = 0; next = record { at = 36 } })
-      ∷ failed_item (record { at = 50 })
-      ∷ Bulk (record { address = 5; endpoint = 2; pid = false; count = 3; next = record { at = 59 } })
-      ∷ no_item
+      ≡ Some (failed_item (record { at = 26 }))
+      ∷ Some (Control (record { address = 5; setup = 28; count = 0; next = record { at = 36 } }))
+      ∷ Some (failed_item (record { at = 50 }))
+      ∷ Some (Bulk (record { address = 5; endpoint = 2; pid = false; count = 3; next = record { at = 59 } }))
+      ∷ None
       ∷ []
 
 -- They are so.

@@ -1,8 +1,6 @@
 -- The record that the writer leaves: "Called first for nothing armed, then after every begin and step with the packet memory as that call left it, and refused nowhere"; "the writer is called after cancels too".
-use Rattle.std.specs.Prelude.{◌≡◌, List, [], ◌∷◌, ℕ, suc, length}
+use Rattle.std.specs.Prelude.{◌≡◌, List, [], ◌∷◌, ℕ, suc, length, None, Option}
 use Rattle.transfers.specs.declared.answers.Armed.{Armed}
-use Rattle.transfers.specs.declared.answers.OptionEntries.{OptionEntries}
-use Rattle.transfers.specs.declared.answers.OptionEntries.TheVariants.{None as no_count}
 use Rattle.transfers.specs.Answers.{nothing_armed}
 use Rattle.transfers.specs.Reply.{Reply, result, number}
 use Rattle.record.specs.Calls.{Call, begin, step, cancel, open_pipe, close_pipe, poll_pipe, interrupt, detect}
@@ -20,7 +18,7 @@ kept_by (result n) l = kept l n
 kept_by (number why) l = refused
 
 -- One call of the writer, by the definition that `append` is proved equal to.
-abbrev pub appends : Armed → OptionEntries → List ℕ → Kept → Kept
+abbrev pub appends : Armed → Option ℕ → List ℕ → Kept → Kept
 appends a x m refused = refused
 appends a x m (kept l n) = let o = append_of a x m l n in kept_by o.answer o.bytes
 
@@ -37,7 +35,7 @@ kept_from ms k (o ∷ os) = kept_from (λ i. ms (suc i)) (appends_by o.writer (m
 
 -- "Called first for nothing armed": a record l is lent, of which nothing is used, and the packet memory `ms 0`.
 abbrev pub kept_all : List ℕ → (ℕ → List ℕ) → List Shown → Kept
-kept_all l ms os = kept_from (λ i. ms (suc i)) (appends nothing_armed no_count (ms 0) (kept l 0)) os
+kept_all l ms os = kept_from (λ i. ms (suc i)) (appends nothing_armed None (ms 0) (kept l 0)) os
 
 -- The packet memory lent to a begin or step is 4,096 bytes (else the writer too refuses with 15).
 abbrev pub Lent : Call → Type 0

@@ -1,11 +1,9 @@
 -- The reader's automaton over entries of version 2: version 1's state, the entries of the last item, and the items that didn't fail.
-use Rattle.std.specs.Prelude.{Bool, true, false, cond, ◌&&◌, ◌||◌, List, [], ◌∷◌, ℕ, zero, suc, ◌+◌, ◌-◌, ◌<◌, eqb}
+use Rattle.std.specs.Prelude.{Bool, true, false, cond, ◌&&◌, ◌||◌, List, [], ◌∷◌, ℕ, zero, suc, ◌+◌, ◌-◌, ◌<◌, eqb, None, Option, Some}
 use Rattle.record.specs.Segments.{Element, entry, failed_entry}
 use Rattle.record.specs.Scan.{guard, feed, starts, InRange}
 use Rattle.record.specs.declared.scan.Scan.{Scan}
 use Rattle.record.specs.declared.scan.Scan.TheVariants.{Between as between, AfterSetup as after_setup, InBulk as in_bulk, InControl as in_control_of}
-use Rattle.record.specs.declared.scan.OptionScan.{OptionScan}
-use Rattle.record.specs.declared.scan.OptionScan.TheVariants.{Some as some, None as none}
 
 -- A record may end here: between items or after a SETUP.
 abbrev pub may_end : Scan → Bool
@@ -19,11 +17,11 @@ abbrev pub count_right : Scan → ℕ → ℕ → Bool
 count_right s run m = eqb m run || (eqb m 0 && may_end s)
 
 -- A count: what comes after it reads as at a record's start.
-abbrev pub feed_failed : Scan → ℕ → ℕ → OptionScan
+abbrev pub feed_failed : Scan → ℕ → ℕ → Option Scan
 feed_failed s run m = guard (count_right s run m) between
 
 -- One entry.
-abbrev pub feed_element : Scan → ℕ → Element → OptionScan
+abbrev pub feed_element : Scan → ℕ → Element → Option Scan
 feed_element s run (entry e) = feed s e
 feed_element s run (failed_entry m) = feed_failed s run m
 
@@ -58,9 +56,9 @@ pub data Reach : Type 0 where
   refused : Reach
 
 -- The automaton takes the entry, or not.
-abbrev pub reach : OptionScan → ℕ → ℕ → Reach
-reach none run k = refused
-reach (some s) run k = at (record { scan = s; run = run; count = k })
+abbrev pub reach : Option Scan → ℕ → ℕ → Reach
+reach None run k = refused
+reach (Some s) run k = at (record { scan = s; run = run; count = k })
 
 -- One entry at a place.
 abbrev pub step_element : Place → Element → Reach

@@ -1,13 +1,12 @@
 -- Term 3's premises, of each call by what was told before it.
-use Rattle.std.specs.Prelude.{◌≡◌, Bool, true, false, ◌&&◌, List, [], ◌∷◌, ℕ, eqb}
+use Rattle.std.specs.Prelude.{◌≡◌, Bool, true, false, ◌&&◌, List, [], ◌∷◌, ℕ, eqb, Err, Ok}
 use Rattle.transfers.specs.declared.host_controller.DataPhase.TheVariants.{In as phase_in, Out as phase_out, None as phase_none}
 use Rattle.transfers.specs.declared.wire.Direction.TheVariants.{In, Out}
-use Rattle.transfers.specs.declared.answers.BeginAnswer.TheVariants.{Begun as accepted, Refused as refused_begin}
-use Rattle.transfers.specs.declared.answers.StepAnswer.TheVariants.{Waiting, Done, Refused}
 use Rattle.transfers.specs.declared.driver.Driver.{Driver}
 use Rattle.record.specs.Wire.{Event, events}
 use Rattle.record.specs.Calls.{control_begin, bulk_begin, Call, begin, step, cancel, open_pipe, close_pipe, poll_pipe, interrupt, detect, Answer, call}
 use Rattle.record.specs.Told.{Live, no_transfer, live, Watch, taken, seen, finds, Note, began, stepped, finished, broke, nothing, Shown, Told, hears}
+use Rattle.transfers.specs.declared.answers.Step.TheVariants.{Done, Waiting}
 
 -- With n stages of the transfer reported complete, SETUP counted, the next is an OUT stage: "a bulk OUT, a control Out's data and a control In's status".
 abbrev pub sends_next : Live → ℕ → Bool
@@ -68,11 +67,11 @@ LentFrom t (o ∷ os) = CallLent o.note t.live × LentFrom (hears t o) os
 
 -- A begin isn't refused; a step "answers waiting, done with a count, or a refusal": one of the first two.
 abbrev pub Unrefused : (c : Call) → Answer c → Type 0
-Unrefused (begin x buf m log) accepted = Unit {0}
-Unrefused (begin x buf m log) (refused_begin why) = ⊥
-Unrefused (step b y buf m log) (Waiting again) = Unit {0}
-Unrefused (step b y buf m log) (Done k) = Unit {0}
-Unrefused (step b y buf m log) (Refused why) = ⊥
+Unrefused (begin x buf m log) (Ok tt) = Unit {0}
+Unrefused (begin x buf m log) (Err why) = ⊥
+Unrefused (step b y buf m log) (Ok (Waiting again)) = Unit {0}
+Unrefused (step b y buf m log) (Ok (Done k)) = Unit {0}
+Unrefused (step b y buf m log) (Err why) = ⊥
 Unrefused cancel a = Unit {0}
 Unrefused (open_pipe a x e p i log) b = Unit {0}
 Unrefused (close_pipe n) a = Unit {0}

@@ -1,7 +1,5 @@
 -- The wire record of a list of calls, in version 2: from the logs performed in order, packet memory and the answers, never from the driver's state.
-use Rattle.std.specs.Prelude.{List, [], ◌∷◌, ◌++◌, map, ℕ, ◌≤◌}
-use Rattle.transfers.specs.declared.answers.OptionEntries.{OptionEntries}
-use Rattle.transfers.specs.declared.answers.OptionEntries.TheVariants.{Some as some_count, None as no_count}
+use Rattle.std.specs.Prelude.{List, [], ◌∷◌, ◌++◌, map, ℕ, ◌≤◌, None, Option, Some}
 use Rattle.record.specs.Segments.{Element, entry, failed_entry}
 use Rattle.record.specs.Wire.{wire}
 use Rattle.record.specs.Armed.{entries_armed}
@@ -22,9 +20,9 @@ record_from t (o ∷ os) =
     map entry (wire t.file o.writes o.memory) ++ (failure (fate o.note (under_way t.live)) u.armings ++ record_from u os)
 
 -- "that step or cancel answers the count"
-abbrev pub counted : OptionEntries → List Element
-counted no_count = []
-counted (some_count n) = failed_entry n ∷ []
+abbrev pub counted : Option ℕ → List Element
+counted None = []
+counted (Some n) = failed_entry n ∷ []
 
 -- The record as the answers of a list of calls tell it.
 unfoldable pub answered_from : List Shown → List Element

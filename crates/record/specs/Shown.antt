@@ -1,33 +1,31 @@
 -- What the driver's calls show.
-use Rattle.std.specs.Prelude.{Bool, false, cond, ◌||◌, List, [], ◌∷◌, ℕ, eqb, leb}
+use Rattle.std.specs.Prelude.{Bool, false, cond, ◌||◌, List, [], ◌∷◌, ℕ, eqb, leb, Err, Ok, Result}
 use Rattle.transfers.specs.declared.refusal.Refusal.{Refusal}
-use Rattle.transfers.specs.declared.answers.BeginAnswer.TheVariants.{Begun as accepted, Refused as refused_begin}
-use Rattle.transfers.specs.declared.answers.CancelAnswer.TheVariants.{Cancelled, Refused as refused_cancel}
-use Rattle.transfers.specs.declared.answers.StepAnswer.{StepAnswer}
-use Rattle.transfers.specs.declared.answers.StepAnswer.TheVariants.{Waiting, Done, Refused}
 use Rattle.transfers.specs.declared.driver.Driver.{Driver}
 use Rattle.transfers.specs.declared.sample.Sample.{Sample}
 use Rattle.transfers.specs.Refusal.{number_of}
 use Rattle.record.specs.Calls.{Call, begin, step, cancel, open_pipe, close_pipe, poll_pipe, interrupt, detect, Answer, Effect, call}
 use Rattle.record.specs.Told.{finds, Note, began, stepped, finished, broke, nothing, Writer, its_memory, any_memory, not_called, Shown}
+use Rattle.transfers.specs.declared.answers.Step.TheVariants.{Done, Waiting}
+use Rattle.transfers.specs.declared.answers.Step.{Step}
 
 -- "1 to 7 and 9 end the transfer": of a step's refusals these; 15 and 16 leave it.
 abbrev pub ends : Refusal → Bool
 ends why = leb (number_of why) 7 || eqb (number_of why) 9
 
 -- Of a step: "the step that finds TRANS_COMPLETE reports one complete".
-abbrev pub note_step : StepAnswer → Sample → List ℕ → Note
-note_step (Waiting again) y now = stepped (finds y) y now
-note_step (Done k) y now = finished y now
-note_step (Refused why) y now = cond (ends why) broke (stepped false y now)
+abbrev pub note_step : Result Step Refusal → Sample → List ℕ → Note
+note_step (Ok (Waiting again)) y now = stepped (finds y) y now
+note_step (Ok (Done k)) y now = finished y now
+note_step (Err why) y now = cond (ends why) broke (stepped false y now)
 
 -- Of a call: a refused begin, a refused cancel and the calls on pipes tell nothing.
 abbrev pub note : (c : Call) → Answer c → Note
-note (begin x buf m log) accepted = began x buf
-note (begin x buf m log) (refused_begin why) = nothing
+note (begin x buf m log) (Ok tt) = began x buf
+note (begin x buf m log) (Err why) = nothing
 note (step b y buf m log) a = note_step a y buf
-note cancel Cancelled = broke
-note cancel (refused_cancel why) = nothing
+note cancel (Ok tt) = broke
+note cancel (Err why) = nothing
 note (open_pipe a x e p i log) b = nothing
 note (close_pipe n) a = nothing
 note (poll_pipe n y m log) a = nothing

@@ -1,8 +1,7 @@
 -- What a list of calls shows, call by call, and what is told by it: one record, and one function that steps it.
-use Rattle.std.specs.Prelude.{Bool, true, false, not, cond, ◌&&◌, List, [], ◌∷◌, ℕ, suc, ◌+◌, length, eqb}
+use Rattle.std.specs.Prelude.{Bool, true, false, not, cond, ◌&&◌, List, [], ◌∷◌, ℕ, suc, ◌+◌, length, eqb, Option}
 use Rattle.std.specs.Int.Bits.{bit_and}
 use Rattle.transfers.specs.declared.answers.Armed.{Armed}
-use Rattle.transfers.specs.declared.answers.OptionEntries.{OptionEntries}
 use Rattle.transfers.specs.declared.sample.Sample.{Sample}
 use Rattle.transfers.specs.Log.{Write}
 use Rattle.record.specs.Chip.{is_set, in_half}
@@ -57,7 +56,7 @@ pub record Shown : Type 0 where
   pub writes : List Write
   pub memory : List ℕ
   pub armed : Armed
-  pub failed : OptionEntries
+  pub failed : Option ℕ
   pub writer : Writer
 
 -- What was told so far: the registers, as the logs performed in order leave them; the transfer under way, how many of its stages were reported complete and how

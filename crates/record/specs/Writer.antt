@@ -1,28 +1,24 @@
 -- The record's writer: "The writer takes that, the packet memory and the used length, and appends the entries; at used length 0 it writes the head first."
-use Rattle.std.specs.Prelude.{◌≡◌, Bool, true, false, cond, ◌&&◌, List, [], ◌++◌, ℕ, ◌+◌, length, eqb, leb}
+use Rattle.std.specs.Prelude.{◌≡◌, Bool, true, false, cond, ◌&&◌, List, [], ◌++◌, ℕ, ◌+◌, length, eqb, leb, None, Option, Result, Some}
 use Rattle.std.proofs.lemmas.List.Edits.{sets}
 use Rattle.transfers.specs.Reply.{Reply, result, number}
 use Rattle.transfers.specs.declared.answers.Armed.{Armed}
-use Rattle.transfers.specs.declared.answers.OptionEntries.{OptionEntries}
-use Rattle.transfers.specs.declared.answers.OptionEntries.TheVariants.{Some as some_count, None as no_count}
-use Rattle.transfers.specs.declared.answers.OptionSetup.{OptionSetup}
-use Rattle.transfers.specs.declared.answers.OptionSetup.TheVariants.{Some as some_setup, None as no_setup}
-use Rattle.transfers.specs.declared.answers.OptionOut.{OptionOut}
-use Rattle.transfers.specs.declared.answers.OptionOut.TheVariants.{Some as some_out, None as no_out}
 use Rattle.record.specs.Armed.{entries_armed}
 use Rattle.record.specs.Bytes.{head_bytes, encode_all, failed_bytes}
 use Rattle.record.specs.Refusal.{append_reply}
-use Rattle.record.specs.declared.writer.AppendAnswer.{AppendAnswer}
+use Rattle.transfers.specs.declared.answers.ArmedOut.{ArmedOut}
+use Rattle.record.specs.declared.refusal.Refusal.{Refusal}
+use Rattle.transfers.specs.declared.answers.ArmedSetup.{ArmedSetup}
 
 -- "address (0 to 127)", "endpoint (0 to 15)", "length (0 to 64)": the fields of what was armed lie in their ranges.
-abbrev pub setup_in_range : OptionSetup → Bool
-setup_in_range no_setup = true
-setup_in_range (some_setup s) = leb s.address 127
+abbrev pub setup_in_range : Option ArmedSetup → Bool
+setup_in_range None = true
+setup_in_range (Some s) = leb s.address 127
 
 -- An OUT packet that was armed: address, endpoint and length.
-abbrev pub out_in_range : OptionOut → Bool
-out_in_range no_out = true
-out_in_range (some_out x) = leb x.address 127 && (leb x.endpoint 15 && leb x.arm.length 64)
+abbrev pub out_in_range : Option ArmedOut → Bool
+out_in_range None = true
+out_in_range (Some x) = leb x.address 127 && (leb x.endpoint 15 && leb x.arm.length 64)
 
 -- All that was armed.
 unfoldable pub armed_in_range : Armed → Bool
@@ -37,12 +33,12 @@ unfoldable pub appended : Armed → List ℕ → ℕ → List ℕ
 appended armed pm used = head_of used ++ encode_all (entries_armed pm armed)
 
 -- "written when a started transfer ends by 1 to 7 or 9 or is cancelled"
-abbrev pub count_bytes : OptionEntries → List ℕ
-count_bytes no_count = []
-count_bytes (some_count n) = failed_bytes n
+abbrev pub count_bytes : Option ℕ → List ℕ
+count_bytes None = []
+count_bytes (Some n) = failed_bytes n
 
 -- The bytes that are appended: head, entries, count.
-unfoldable pub told_bytes : Armed → OptionEntries → List ℕ → ℕ → List ℕ
+unfoldable pub told_bytes : Armed → Option ℕ → List ℕ → ℕ → List ℕ
 told_bytes armed failed pm used = appended armed pm used ++ count_bytes failed
 
 -- What a call of the writer leaves: its answer, the used length or a number, and every byte of the record.
@@ -62,28 +58,28 @@ append_if true true false new l used = refusing 21 l
 append_if true true true new l used = record { answer = result (used + length new); bytes = sets l used new }
 
 -- A call of the writer, on any armed answer, packet memory, record and used length.
-unfoldable pub append_of : Armed → OptionEntries → List ℕ → List ℕ → ℕ → Append
+unfoldable pub append_of : Armed → Option ℕ → List ℕ → List ℕ → ℕ → Append
 append_of armed failed pm l used =
     append_if (eqb (length pm) 4096) (armed_in_range armed) (leb (used + length (told_bytes armed failed pm used)) (length l)) (told_bytes armed failed pm used) l used
 
 -- The lengths of the entries: SETUP 10 bytes, OUT 6 and its own.
-abbrev pub setup_size : OptionSetup → ℕ
-setup_size no_setup = 0
-setup_size (some_setup s) = 10
+abbrev pub setup_size : Option ArmedSetup → ℕ
+setup_size None = 0
+setup_size (Some s) = 10
 
 -- OUT: 6 bytes and its own.
-abbrev pub out_size : OptionOut → ℕ
-out_size no_out = 0
-out_size (some_out x) = 6 + x.arm.length
+abbrev pub out_size : Option ArmedOut → ℕ
+out_size None = 0
+out_size (Some x) = 6 + x.arm.length
 
 -- All that was armed.
 abbrev pub armed_size : Armed → ℕ
 armed_size armed = setup_size armed.setup + out_size armed.first + out_size armed.second
 
 -- A count: 5 bytes.
-abbrev pub count_size : OptionEntries → ℕ
-count_size no_count = 0
-count_size (some_count n) = 5
+abbrev pub count_size : Option ℕ → ℕ
+count_size None = 0
+count_size (Some n) = 5
 
 -- The head's length, where it is written.
 abbrev pub head_size : ℕ → ℕ
@@ -95,6 +91,6 @@ pub record Put (l : List ℕ) (at : ℕ) (vs : List ℕ) (l' : List ℕ) (at' : 
   pub next : at' ≡ at + length vs
 
 -- A call did what its definition says, in document 01's numbers.
-pub record Appended (x : Append) (r : AppendAnswer) (l' : List ℕ) : Type 0 where
+pub record Appended (x : Append) (r : Result ℕ Refusal) (l' : List ℕ) : Type 0 where
   pub answer : append_reply r ≡ x.answer
   pub bytes : l' ≡ x.bytes

@@ -1,6 +1,7 @@
-// A cursor over a record's items.
-ghost use Rattle.std.specs.Prelude.{◌≡◌, ◌+◌, ◌≤◌, length};
-ghost use Rattle.record.specs.Items.{first_at, group_of, group_at_of, sent_at, failed_at, item_at};
+// A record's items, at a cursor or one after another.
+ghost use Rattle.std.specs.Prelude.{◌≡◌, ℕ, ◌-◌, ◌≤◌, length, Some};
+ghost use Rattle.std.specs.Iterator.{at_most};
+ghost use Rattle.record.specs.Items.{first_at, next_of, group_of, group_at_of, sent_at, failed_at, item_at};
 
 use crate::look::{Look, look_at};
 
@@ -29,12 +30,12 @@ pub struct BulkItem {
     pub next: Cursor,
 }
 
+// What stands at a cursor: an item, or the cursor after one that failed.
 #[derive(Clone, Copy)]
 pub enum ItemAnswer {
     Control(ControlItem),
     Bulk(BulkItem),
     Failed(Cursor),
-    End,
 }
 
 // The position after packets, and the count of their bytes.
@@ -44,91 +45,44 @@ pub struct Span {
     pub count: usize,
 }
 
-#[derive(Clone, Copy)]
-pub enum SpanTurn {
-    More(Span),
-    Ended(Span),
-}
-
-// One packet of a group.
-fn packet_at(s: &[u8], p: Span) -> SpanTurn
-    requires { (p.at ≤ length s.now) × (p.count ≤ p.at) }
-    ensures { result ≡ group_of s.now p }
-{
-    let at = p.at;
-    let l = look_at(s, at);
-    match l {
-        Look::Out(x) => {
-            let n = x.length as usize;
-            let q = Span {
-                at: at + (6 + n),
-                count: p.count + n,
-            };
-            if x.last {
-                SpanTurn::Ended(q)
-            } else {
-                SpanTurn::More(q)
-            }
-        }
-        Look::Setup(_, _) => SpanTurn::Ended(p),
-        Look::Failed(_) => SpanTurn::Ended(p),
-        Look::Bad => SpanTurn::Ended(p),
-        Look::End => SpanTurn::Ended(p),
-    }
-}
-
-// The packets from a position on, up to a marked one.
+// The packets from a position on, up to a marked one. An entry's length tells the next position.
+#[tactic(auto, using(crate::proofs::Spans::walk_start))]
 fn group_at(s: &[u8], at: usize) -> Span
     requires { at ≤ length s.now }
     ensures { result ≡ group_at_of s.now at }
 {
     let mut p = Span { at, count: 0 };
-    loop {
-        let t = packet_at(s, p);
-        match t {
-            SpanTurn::More(q) => {
-                p = q;
-            }
-            SpanTurn::Ended(q) => {
-                return q;
-            }
+    while let Ok(Some(Look::Out(x))) = look_at(s, p.at) {
+        let n = x.length as usize;
+        p = Span {
+            at: p.at + (6 + n),
+            count: p.count + n,
+        };
+        if x.last {
+            break;
         }
     }
+    p
 }
 
 // What follows a SETUP on endpoint 0.
+#[tactic(auto, unfolding(crate::specs::Items::sent_at))]
 fn sent_at(s: &[u8], at: usize) -> Span
     requires { at ≤ length s.now }
     ensures { result ≡ sent_at s.now at }
 {
-    let l = look_at(s, at);
-    match l {
-        Look::Out(x) => {
-            if x.endpoint == 0 {
-                group_at(s, at)
-            } else {
-                Span { at, count: 0 }
-            }
-        }
-        Look::Setup(_, _) => Span { at, count: 0 },
-        Look::Failed(_) => Span { at, count: 0 },
-        Look::Bad => Span { at, count: 0 },
-        Look::End => Span { at, count: 0 },
+    match look_at(s, at) {
+        Ok(Some(Look::Out(x))) if x.endpoint == 0 => group_at(s, at),
+        _ => Span { at, count: 0 },
     }
 }
 
 // A count above 0 stands here: the item before it failed.
+#[tactic(auto, unfolding(crate::specs::Items::failed_at))]
 fn failed_at(s: &[u8], at: usize) -> bool
     ensures { result ≡ failed_at s.now at }
 {
-    let l = look_at(s, at);
-    match l {
-        Look::Failed(m) => m != 0,
-        Look::Setup(_, _) => false,
-        Look::Out(_) => false,
-        Look::Bad => false,
-        Look::End => false,
-    }
+    matches!(look_at(s, at), Ok(Some(Look::Failed(m))) if m != 0)
 }
 
 // The first item's cursor.
@@ -138,42 +92,86 @@ pub fn first() -> Cursor
     Cursor { at: 5 }
 }
 
-// The item at a cursor, with the next cursor; of one that failed only the next cursor.
-pub fn item(s: &[u8], cursor: Cursor) -> ItemAnswer
+// The item at a cursor, with the next cursor; of one that failed only the next cursor. `Accepted` names both.
+#[tactic(auto, using(crate::proofs::Looking::setup_at, crate::proofs::Looking::out_at, crate::proofs::Looking::failed_at, crate::proofs::Spans::failed_room), unfolding(crate::specs::Items::item_at))]
+pub fn item(s: &[u8], cursor: Cursor) -> Option<ItemAnswer>
     ensures { result ≡ item_at s.now cursor.at }
 {
     let at = cursor.at;
-    let l = look_at(s, at);
-    match l {
-        Look::Setup(address, _) => {
+    let (found, after) = match look_at(s, at) {
+        Ok(Some(Look::Setup(address, _))) => {
             let sent = sent_at(s, at + 10);
-            let after = sent.at;
-            if failed_at(s, after) {
-                return ItemAnswer::Failed(Cursor { at: after + 5 });
-            }
-            ItemAnswer::Control(ControlItem {
+            let next = Cursor { at: sent.at };
+            let control = ControlItem {
                 address,
                 setup: at + 2,
                 count: sent.count,
-                next: Cursor { at: sent.at },
-            })
+                next,
+            };
+            (ItemAnswer::Control(control), sent.at)
         }
-        Look::Out(x) => {
+        Ok(Some(Look::Out(x))) => {
             let sent = group_at(s, at);
-            let after = sent.at;
-            if failed_at(s, after) {
-                return ItemAnswer::Failed(Cursor { at: after + 5 });
-            }
-            ItemAnswer::Bulk(BulkItem {
+            let bulk = BulkItem {
                 address: x.address,
                 endpoint: x.endpoint,
                 pid: x.pid,
                 count: sent.count,
                 next: Cursor { at: sent.at },
-            })
+            };
+            (ItemAnswer::Bulk(bulk), sent.at)
         }
-        Look::Failed(_) => ItemAnswer::Failed(Cursor { at: at + 5 }),
-        Look::Bad => ItemAnswer::End,
-        Look::End => ItemAnswer::End,
+        Ok(Some(Look::Failed(_))) => return Some(ItemAnswer::Failed(Cursor { at: at + 5 })),
+        _ => return None,
+    };
+    if failed_at(s, after) {
+        return Some(ItemAnswer::Failed(Cursor { at: after + 5 }));
+    }
+    Some(found)
+}
+
+impl ItemAnswer {
+    // The cursor after it.
+    fn after(self) -> Cursor
+        ensures { (at : ℕ) → result.at ≡ next_of (Some self) at }
+    {
+        match self {
+            ItemAnswer::Control(c) => c.next,
+            ItemAnswer::Bulk(b) => b.next,
+            ItemAnswer::Failed(next) => next,
+        }
+    }
+}
+
+// A record's items one after another, up to the end.
+#[derive(Drop)]
+pub struct Items<'a> {
+    bytes: &'a [u8],
+    cursor: Cursor,
+}
+
+impl<'a> Items<'a> {
+    pub fn new(bytes: &'a [u8]) -> Items<'a>
+        ensures { (result.bytes.now ≡ bytes.now) × (result.cursor.at ≡ first_at) }
+    {
+        Items {
+            bytes,
+            cursor: first(),
+        }
+    }
+}
+
+impl<'a> Iterator for Items<'a> {
+    type Item = ItemAnswer;
+
+    ghost next_gives = { λ i found j. (found ≡ item_at i.bytes.now i.cursor.at) × (j.cursor.at ≡ next_of found i.cursor.at) × (j.bytes.now ≡ i.bytes.now) };
+
+    ghost remaining = { λ i. at_most (length i.bytes.now - i.cursor.at) };
+
+    #[tactic(auto, using(crate::proofs::Spans::item_further))]
+    fn next(&mut self) -> Option<ItemAnswer> {
+        let found = item(self.bytes, self.cursor)?;
+        self.cursor = found.after();
+        Some(found)
     }
 }

@@ -1,10 +1,8 @@
 // The wire record: its writer and its reader. Term 3 is stated in specs/Term3.antt and proved in proofs/Term3.antt.
 #![tactic(auto)]
 
-mod flags;
 pub mod items;
 pub mod look;
-mod put;
 pub mod reader;
 pub mod refusal;
 pub mod scan;

@@ -1,8 +1,8 @@
 // One entry of a record's bytes.
-ghost use Rattle.std.specs.Prelude.{◌≡◌, ◌+◌, ◌*◌, ◌<◌, ◌≤◌, length, drop};
+ghost use Rattle.std.specs.Prelude.{◌≡◌, length, drop};
 ghost use Rattle.record.specs.Reader.{version_at, head_right, look_setup, fields_fit, look_out, look_failed, look};
 
-use crate::flags::{both, either};
+use crate::refusal::Refusal;
 
 // An OUT entry without its bytes.
 #[derive(Clone, Copy)]
@@ -14,136 +14,101 @@ pub struct OutHead {
     pub length: u8,
 }
 
-// What stands at a position: a SETUP with address and wLength, an OUT packet, a failed transfer's count, no entry, or nothing.
+// An entry: a SETUP with address and wLength, an OUT packet, or a failed transfer's count.
 #[derive(Clone, Copy)]
 pub enum Look {
     Setup(u8, u16),
     Out(OutHead),
     Failed(u32),
-    Bad,
-    End,
 }
 
-fn word(low: u8, high: u8) -> u16
-    ensures { result ≡ low + high * 256 }
-{
-    low as u16 + high as u16 * 256
-}
-
+#[tactic(auto, unfolding(crate::specs::Reader::head_right))]
 pub(crate) fn head_right(s: &[u8]) -> bool
     ensures { result ≡ head_right s.now }
 {
-    if s.len() < 5 {
-        return false;
+    match s {
+        [b'W', b'L', b'G', low, high, ..] => {
+            let version = u16::from_le_bytes([*low, *high]);
+            version == 1 || version == 2
+        }
+        _ => false,
     }
-    let version = word(s[3], s[4]);
-    both(
-        s[0] == 0x57,
-        both(
-            s[1] == 0x4C,
-            both(s[2] == 0x47, either(version == 1, version == 2)),
-        ),
-    )
 }
 
-// The version of a record's head; 0 where there is none.
+// The version of a record's head; 0 where there is none: `Accepted` says which number it is.
+#[tactic(auto, unfolding(crate::specs::Reader::version_at))]
 pub fn version(s: &[u8]) -> u16
     ensures { result ≡ version_at s.now }
 {
-    if s.len() < 5 {
-        return 0;
+    match s {
+        [_, _, _, low, high, ..] => u16::from_le_bytes([*low, *high]),
+        _ => 0,
     }
-    word(s[3], s[4])
 }
 
-fn look_setup(s: &[u8], at: usize) -> Look
-    requires { at < length s.now }
-    ensures { result ≡ look_setup (drop at s.now) }
+#[tactic(auto, unfolding(crate::specs::Reader::look_setup))]
+fn look_setup(rest: &[u8]) -> Result<Option<Look>, Refusal>
+    ensures { result ≡ look_setup rest.now }
 {
-    if s.len() - at < 10 {
-        return Look::Bad;
+    match rest {
+        [_, address, _, _, _, _, _, _, low, high, ..] if *address <= 127 => Ok(Some(Look::Setup(
+            *address,
+            u16::from_le_bytes([*low, *high]),
+        ))),
+        _ => Err(Refusal::Field),
     }
-    let address = s[at + 1];
-    if 127 < address {
-        return Look::Bad;
-    }
-    Look::Setup(address, word(s[at + 8], s[at + 9]))
 }
 
+#[tactic(auto, unfolding(crate::specs::Reader::fields_fit))]
 fn fields_fit(address: u8, endpoint: u8, pid: u8, last: u8, length: u8) -> bool
     ensures { result ≡ fields_fit address endpoint pid last length }
 {
-    both(
-        address <= 127,
-        both(
-            endpoint <= 15,
-            both(pid <= 1, both(last <= 1, length <= 64)),
-        ),
-    )
+    address <= 127 && endpoint <= 15 && pid <= 1 && last <= 1 && length <= 64
 }
 
-fn wide(x: u8) -> usize
-    ensures { (result ≡ x) × (result ≤ 255) }
+#[tactic(auto, unfolding(crate::specs::Reader::look_out))]
+fn look_out(rest: &[u8]) -> Result<Option<Look>, Refusal>
+    ensures { result ≡ look_out rest.now }
 {
-    x as usize
-}
-
-fn look_out(s: &[u8], at: usize) -> Look
-    requires { at < length s.now }
-    ensures { result ≡ look_out (drop at s.now) }
-{
-    if s.len() - at < 6 {
-        return Look::Bad;
+    let [_, address, endpoint, pid, last, length, bytes @ ..] = rest else {
+        return Err(Refusal::Field);
+    };
+    if !fields_fit(*address, *endpoint, *pid, *last, *length) || bytes.len() < *length as usize {
+        return Err(Refusal::Field);
     }
-    let address = s[at + 1];
-    let endpoint = s[at + 2];
-    let pid = s[at + 3];
-    let last = s[at + 4];
-    let length = s[at + 5];
-    if !fields_fit(address, endpoint, pid, last, length) {
-        return Look::Bad;
-    }
-    if s.len() - at < 6 + wide(length) {
-        return Look::Bad;
-    }
-    Look::Out(OutHead {
-        address,
-        endpoint,
-        pid: pid == 1,
-        last: last == 1,
-        length,
-    })
+    Ok(Some(Look::Out(OutHead {
+        address: *address,
+        endpoint: *endpoint,
+        pid: *pid == 1,
+        last: *last == 1,
+        length: *length,
+    })))
 }
 
 // 0x58 and 32 bits.
-fn look_failed(s: &[u8], at: usize) -> Look
-    requires { at < length s.now }
-    ensures { result ≡ look_failed (drop at s.now) }
+#[tactic(auto, unfolding(crate::specs::Reader::look_failed))]
+fn look_failed(rest: &[u8]) -> Result<Option<Look>, Refusal>
+    ensures { result ≡ look_failed rest.now }
 {
-    if s.len() - at < 5 {
-        return Look::Bad;
+    match rest {
+        [_, a, b, c, d, ..] => Ok(Some(Look::Failed(u32::from_le_bytes([*a, *b, *c, *d])))),
+        _ => Err(Refusal::Field),
     }
-    let low = word(s[at + 1], s[at + 2]);
-    let high = word(s[at + 3], s[at + 4]);
-    Look::Failed(low as u32 + high as u32 * 65536)
 }
 
-// The entry at a position.
-pub fn look_at(s: &[u8], at: usize) -> Look
+// The entry at a position, or `None` at the end.
+#[tactic(auto, unfolding(crate::specs::Reader::look))]
+pub fn look_at(s: &[u8], at: usize) -> Result<Option<Look>, Refusal>
     ensures { result ≡ look (drop at s.now) }
 {
     if s.len() <= at {
-        return Look::End;
+        return Ok(None);
     }
-    let kind = s[at];
-    if kind == 0x53 {
-        return look_setup(s, at);
+    let rest = &s[at..];
+    match rest[0] {
+        0x53 => look_setup(rest),
+        0x4F => look_out(rest),
+        0x58 => look_failed(rest),
+        _ => Err(Refusal::Field),
     }
-    if kind == 0x4F {
-        return look_out(s, at);
-    }
-    if kind == 0x58 {
-        return look_failed(s, at);
-    }
-    Look::Bad
 }

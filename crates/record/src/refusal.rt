@@ -11,14 +11,16 @@ pub enum Refusal {
     Room,
 }
 
-pub fn number(refusal: Refusal) -> u8
-    ensures { result ≡ number_of refusal }
-{
-    match refusal {
-        Refusal::LentMemory => 15,
-        Refusal::Mark => 18,
-        Refusal::Field => 19,
-        Refusal::Grammar => 20,
-        Refusal::Room => 21,
+impl From<Refusal> for u8 {
+    ghost from_gives = { λ why n. n ≡ number_of why };
+
+    fn from(why: Refusal) -> u8 {
+        match why {
+            Refusal::LentMemory => 15,
+            Refusal::Mark => 18,
+            Refusal::Field => 19,
+            Refusal::Grammar => 20,
+            Refusal::Room => 21,
+        }
     }
 }

@@ -1,239 +1,178 @@
 // The record's writer.
 ghost use Rattle.std.specs.Prelude.{◌≡◌, true, ◌+◌, ◌≤◌, length};
-ghost use Rattle.transfers.specs.Memory.{MemoryFits};
-ghost use Rattle.record.specs.Bytes.{encode, encode_all, failed_bytes};
-ghost use Rattle.record.specs.Armed.{setup_entry, entry_armed, setups_armed, outs_armed};
-ghost use Rattle.record.specs.Writer.{setup_in_range, out_in_range, armed_in_range, head_of, appended, count_bytes, told_bytes, append_of, setup_size, out_size, armed_size, count_size, head_size, Put, Appended};
+ghost use Rattle.record.specs.Bytes.{encode_all};
+ghost use Rattle.record.specs.Armed.{setups_armed, outs_armed};
+ghost use Rattle.record.specs.Writer.{setup_in_range, out_in_range, armed_in_range, head_of, count_bytes, told_bytes, append_of, setup_size, out_size, armed_size, count_size, head_size, Put, Appended};
 
-use crate::flags::flag;
-use crate::put::{put_byte, put_pair, put_part, put_word};
 use crate::refusal::Refusal;
-use transfers::answers::{Armed, ArmedOut, ArmedSetup, OptionEntries, OptionOut, OptionSetup};
+use transfers::answers::{Armed, ArmedOut, ArmedSetup};
 use transfers::memory::slot_address;
-
-#[derive(Clone, Copy)]
-pub enum AppendAnswer {
-    Used(usize),
-    Refused(Refusal),
-}
 
 // The version that is written; the reader takes 1 too.
 pub(crate) const VERSION: u16 = 2;
 
-fn setup_in_range(setup: OptionSetup) -> bool
+fn setup_in_range(setup: Option<ArmedSetup>) -> bool
     ensures { result ≡ setup_in_range setup }
 {
-    match setup {
-        OptionSetup::None => true,
-        OptionSetup::Some(s) => s.address <= 127,
-    }
+    setup.is_none_or(|s| s.address <= 127)
 }
 
-fn out_in_range(out: OptionOut) -> bool
+fn out_in_range(out: Option<ArmedOut>) -> bool
     ensures { result ≡ out_in_range out }
 {
-    match out {
-        OptionOut::None => true,
-        OptionOut::Some(x) => {
-            let arm = x.arm;
-            if x.address <= 127 {
-                if x.endpoint <= 15 {
-                    arm.length <= 64
-                } else {
-                    false
-                }
-            } else {
-                false
-            }
-        }
-    }
+    out.is_none_or(|x| x.address <= 127 && x.endpoint <= 15 && x.arm.length <= 64)
 }
 
+#[tactic(auto, unfolding(crate::specs::Writer::armed_in_range))]
 fn armed_in_range(armed: Armed) -> bool
     ensures { result ≡ armed_in_range armed }
 {
-    let setup = armed.setup;
-    let first = armed.first;
-    let second = armed.second;
-    if setup_in_range(setup) {
-        if out_in_range(first) {
-            out_in_range(second)
-        } else {
-            false
-        }
-    } else {
-        false
-    }
+    setup_in_range(armed.setup) && out_in_range(armed.first) && out_in_range(armed.second)
 }
 
-fn setup_size(setup: OptionSetup) -> usize
-    ensures { (result ≡ setup_size setup) × (result ≤ 10) }
-{
-    match setup {
-        OptionSetup::None => 0,
-        OptionSetup::Some(_) => 10,
-    }
-}
-
-fn out_size(out: OptionOut) -> usize
+fn out_size(out: Option<ArmedOut>) -> usize
     ensures { (result ≡ out_size out) × (result ≤ 261) }
 {
-    match out {
-        OptionOut::None => 0,
-        OptionOut::Some(x) => {
-            let arm = x.arm;
-            6 + arm.length as usize
-        }
-    }
-}
-
-fn head_size(used: usize) -> usize
-    ensures { (result ≡ head_size used) × (result ≤ 5) }
-{
-    if used == 0 { 5 } else { 0 }
+    out.map_or(0, |x| 6 + x.arm.length as usize)
 }
 
 // How many bytes are to be appended.
-fn size(armed: Armed, used: usize) -> usize
-    ensures { (result ≡ head_size used + armed_size armed) × (result ≤ 537) }
+fn size(armed: Armed, failed: Option<u32>, used: usize) -> usize
+    ensures { (result ≡ head_size used + armed_size armed + count_size failed) × (result ≤ 542) }
 {
-    let setup = armed.setup;
-    let first = armed.first;
-    let second = armed.second;
-    head_size(used) + (setup_size(setup) + out_size(first) + out_size(second))
+    let head: usize = if used == 0 { 5 } else { 0 };
+    let setup: usize = armed.setup.map_or(0, |_| 10);
+    let count: usize = failed.map_or(0, |_| 5);
+    head + (setup + out_size(armed.first) + out_size(armed.second)) + count
+}
+
+// Stores a part; what follows it begins at the answer. `Put` speaks of the bytes and of that place, so they stay two parameters here too.
+#[tactic(auto, using(crate::proofs::Puts::stored))]
+fn put(bytes: &mut [u8], at: usize, part: &[u8]) -> usize
+    requires { at + length part.now ≤ length bytes.old }
+    ensures { Put bytes.old at part.now bytes.new result }
+{
+    let end = at + part.len();
+    bytes[at..end].copy_from_slice(part);
+    end
 }
 
 fn put_head(bytes: &mut [u8], used: usize) -> usize
     requires { used + head_size used ≤ length bytes.old }
     ensures { Put bytes.old used (head_of used) bytes.new result }
 {
-    if used == 0 {
-        let a = put_part(bytes, used, b"WLG", 3);
-        put_word(bytes, a, VERSION)
-    } else {
-        used
+    if used != 0 {
+        return used;
     }
+    let [low, high] = VERSION.to_le_bytes();
+    put(bytes, used, &[b'W', b'L', b'G', low, high])
 }
 
-fn put_setup(bytes: &mut [u8], at: usize, s: ArmedSetup) -> usize
-    requires { at + 10 ≤ length bytes.old }
-    ensures { Put bytes.old at (encode (setup_entry s.address s.setup)) bytes.new result }
-{
-    let p = s.setup;
-    let a = put_pair(bytes, at, 0x53, s.address);
-    let b = put_pair(bytes, a, p.bmRequestType, p.bRequest);
-    let c = put_word(bytes, b, p.wValue);
-    let d = put_word(bytes, c, p.wIndex);
-    put_word(bytes, d, p.wLength)
-}
-
-fn put_out(bytes: &mut [u8], at: usize, x: ArmedOut, pm: &[u8]) -> usize
-    requires { (at + (6 + x.arm.length) ≤ length bytes.old) × (x.arm.length ≤ 64) × MemoryFits pm.now }
-    ensures { Put bytes.old at (encode (entry_armed pm.now x)) bytes.new result }
-{
-    let arm = x.arm;
-    let from = slot_address(arm.slot);
-    let n = arm.length as usize;
-    let a = put_pair(bytes, at, 0x4F, x.address);
-    let b = put_pair(bytes, a, x.endpoint, flag(arm.pid));
-    let c = put_pair(bytes, b, flag(arm.last), arm.length);
-    put_part(bytes, c, &pm[from..], n)
-}
-
-fn put_setup_if(bytes: &mut [u8], at: usize, setup: OptionSetup) -> usize
+#[tactic(auto, using(crate::proofs::Puts::nothing, crate::proofs::Encoding::encode_one), unfolding(crate::specs::Bytes::encode_all))]
+fn put_setup(bytes: &mut [u8], at: usize, setup: Option<ArmedSetup>) -> usize
     requires { at + setup_size setup ≤ length bytes.old }
     ensures { Put bytes.old at (encode_all (setups_armed setup)) bytes.new result }
 {
-    match setup {
-        OptionSetup::None => at,
-        OptionSetup::Some(s) => put_setup(bytes, at, s),
-    }
+    let Some(s) = setup else {
+        return at;
+    };
+    let p = s.setup;
+    let [value, value_high] = p.wValue.to_le_bytes();
+    let [index, index_high] = p.wIndex.to_le_bytes();
+    let [length, length_high] = p.wLength.to_le_bytes();
+    put(
+        bytes,
+        at,
+        &[
+            0x53,
+            s.address,
+            p.bmRequestType,
+            p.bRequest,
+            value,
+            value_high,
+            index,
+            index_high,
+            length,
+            length_high,
+        ],
+    )
 }
 
-fn put_out_if(bytes: &mut [u8], at: usize, out: OptionOut, pm: &[u8]) -> usize
-    requires { (at + out_size out ≤ length bytes.old) × (out_in_range out ≡ true) × MemoryFits pm.now }
+// An OUT packet: six bytes, and its own from its slot.
+fn put_out(bytes: &mut [u8], at: usize, out: Option<ArmedOut>, pm: &[u8; 4096]) -> usize
+    requires { (at + out_size out ≤ length bytes.old) × (out_in_range out ≡ true) }
     ensures { Put bytes.old at (encode_all (outs_armed pm.now out)) bytes.new result }
 {
-    match out {
-        OptionOut::None => at,
-        OptionOut::Some(x) => put_out(bytes, at, x, pm),
-    }
-}
-
-fn put_armed(bytes: &mut [u8], used: usize, armed: Armed, pm: &[u8]) -> usize
-    requires { (used + (head_size used + armed_size armed) ≤ length bytes.old) × (armed_in_range armed ≡ true) × MemoryFits pm.now }
-    ensures { Put bytes.old used (appended armed pm.now used) bytes.new result }
-{
-    let setup = armed.setup;
-    let first = armed.first;
-    let second = armed.second;
-    let a = put_head(bytes, used);
-    let b = put_setup_if(bytes, a, setup);
-    let c = put_out_if(bytes, b, first, pm);
-    put_out_if(bytes, c, second, pm)
-}
-
-fn count_size(failed: OptionEntries) -> usize
-    ensures { (result ≡ count_size failed) × (result ≤ 5) }
-{
-    match failed {
-        OptionEntries::None => 0,
-        OptionEntries::Some(_) => 5,
-    }
+    let Some(x) = out else {
+        return at;
+    };
+    let arm = x.arm;
+    let from = slot_address(arm.slot);
+    let head = [
+        0x4F,
+        x.address,
+        x.endpoint,
+        u8::from(arm.pid),
+        u8::from(arm.last),
+        arm.length,
+    ];
+    let next = put(bytes, at, &head);
+    put(bytes, next, &pm[from..from + arm.length as usize])
 }
 
 // A count: 0x58 and 32 bits, low byte first.
-fn put_failed(bytes: &mut [u8], at: usize, n: u32) -> usize
-    requires { at + 5 ≤ length bytes.old }
-    ensures { Put bytes.old at (failed_bytes n) bytes.new result }
-{
-    let low = (n % 65536) as u16;
-    let high = (n / 65536) as u16;
-    let a = put_byte(bytes, at, 0x58);
-    let b = put_word(bytes, a, low);
-    put_word(bytes, b, high)
-}
-
-fn put_failed_if(bytes: &mut [u8], at: usize, failed: OptionEntries) -> usize
+fn put_failed(bytes: &mut [u8], at: usize, failed: Option<u32>) -> usize
     requires { at + count_size failed ≤ length bytes.old }
     ensures { Put bytes.old at (count_bytes failed) bytes.new result }
 {
-    match failed {
-        OptionEntries::None => at,
-        OptionEntries::Some(n) => put_failed(bytes, at, n),
-    }
+    let Some(count) = failed else {
+        return at;
+    };
+    let [a, b, c, d] = count.to_le_bytes();
+    put(bytes, at, &[0x58, a, b, c, d])
 }
 
-fn put_told(bytes: &mut [u8], used: usize, armed: Armed, failed: OptionEntries, pm: &[u8]) -> usize
-    requires { (used + (head_size used + armed_size armed + count_size failed) ≤ length bytes.old) × (armed_in_range armed ≡ true) × MemoryFits pm.now }
+// Head, entries and count.
+fn put_told(
+    bytes: &mut [u8],
+    used: usize,
+    armed: Armed,
+    failed: Option<u32>,
+    pm: &[u8; 4096],
+) -> usize
+    requires { (used + (head_size used + armed_size armed + count_size failed) ≤ length bytes.old) × (armed_in_range armed ≡ true) }
     ensures { Put bytes.old used (told_bytes armed failed pm.now used) bytes.new result }
 {
-    let a = put_armed(bytes, used, armed, pm);
-    put_failed_if(bytes, a, failed)
+    let a = put_head(bytes, used);
+    let b = put_setup(bytes, a, armed.setup);
+    let c = put_out(bytes, b, armed.first, pm);
+    let d = put_out(bytes, c, armed.second, pm);
+    put_failed(bytes, d, failed)
 }
 
 // Appends what was armed, or the count of a transfer that failed, to a record of which `used` bytes are used, and answers how many are used then.
+// The lent bytes and the count of those used stay two parameters: `append_of` speaks of any two, a count past the end too.
 pub fn append(
     armed: Armed,
-    failed: OptionEntries,
+    failed: Option<u32>,
     pm: &[u8],
     bytes: &mut [u8],
     used: usize,
-) -> AppendAnswer
+) -> Result<usize, Refusal>
     ensures { Appended (append_of armed failed pm.now bytes.old used) result bytes.new }
 {
-    if pm.len() != 4096 {
-        return AppendAnswer::Refused(Refusal::LentMemory);
-    }
+    let Ok(pm) = <&[u8; 4096]>::try_from(pm) else {
+        return Err(Refusal::LentMemory);
+    };
     if !armed_in_range(armed) {
-        return AppendAnswer::Refused(Refusal::Field);
+        return Err(Refusal::Field);
     }
-    let n = size(armed, used) + count_size(failed);
-    if bytes.len() < used {
-        return AppendAnswer::Refused(Refusal::Room);
+    let n = size(armed, failed, used);
+    let Some(room) = bytes.len().checked_sub(used) else {
+        return Err(Refusal::Room);
+    };
+    if room < n {
+        return Err(Refusal::Room);
     }
-    if bytes.len() - used < n {
-        return AppendAnswer::Refused(Refusal::Room);
-    }
-    AppendAnswer::Used(put_told(bytes, used, armed, failed, pm))
+    Ok(put_told(bytes, used, armed, failed, pm))
 }

@@ -1,178 +1,105 @@
 // The begins.
 use script::command::{Bulk, Control};
-use session::begin::{extras_of, kind_of, packet_of, zero};
-use session::effects::copy_of;
-use session::print::{answer, refused};
-use session::state::State;
-use session::within::{within, within_words};
-use transfers::answers::BeginAnswer;
+use session::begin::{extras_of, kind_of, packet_of};
+use session::log::Log;
+use session::play::Session;
+use session::print::print_answer;
+use std::io;
+use std::io::Write;
 use transfers::control::Begun;
 use transfers::host_controller::DataPhase;
-use transfers::refusal::number;
+use transfers::wire::Direction;
 
-fn print_begun(out: &mut [u8], at: usize, a: BeginAnswer) -> usize {
-    match a {
-        BeginAnswer::Begun => answer(out, at, b"begun"),
-        BeginAnswer::Refused(r) => refused(out, at, number(r)),
-    }
+#[derive(Clone, Copy)]
+pub enum Begin {
+    Control(DataPhase, Control),
+    Bulk(Direction, Bulk),
 }
 
-fn keep(s: State, b: Begun, count: usize, bulk: bool, buf: &mut [u8], bytes: &[u8]) -> State {
-    let a = b.answer;
-    match a {
-        BeginAnswer::Refused(_) => s,
-        BeginAnswer::Begun => session::begin::keep(s, count, bulk, buf, bytes),
+impl Begin {
+    fn is_in(self) -> bool {
+        matches!(
+            self,
+            Begin::Control(DataPhase::In, _) | Begin::Bulk(Direction::In, _)
+        )
     }
-}
 
-fn finish(
-    mut s: State,
-    b: Begun,
-    old: &[u8; 4096],
-    pm: &[u8],
-    log: &[u32; 192],
-    record: &mut [u8],
-    out: &mut [u8],
-) -> State {
-    let next = b.next;
-    let a = b.answer;
-    let armed = b.armed;
-    s.driver = next;
-    s.at = print_begun(out, s.at, a);
-    session::begin::finish(s, armed, b.writes, old, pm, log, record, out)
+    fn is_bulk(self) -> bool {
+        matches!(self, Begin::Bulk(_, _))
+    }
+
+    fn count(self) -> usize {
+        match self {
+            Begin::Control(_, c) => c.count,
+            Begin::Bulk(_, b) => b.count,
+        }
+    }
 }
 
 // The driver's begins, on what is lent.
-fn begin_control(
-    s: State,
-    c: Control,
-    phase: DataPhase,
-    bytes: &[u8],
-    pm: &[u8],
-    log: &mut [u32],
-) -> Begun {
-    let d = s.driver;
-    let setup = c.setup;
-    let n = within(c.count, bytes);
-    let m = within(s.memory, pm);
-    let w = within_words(s.words, log);
-    d.begin_control(
+fn begin_control(s: &Session, phase: DataPhase, c: Control, log: &mut [u32]) -> Begun {
+    s.state.driver.begin_control(
         c.address,
         extras_of(c.preamble),
         c.size,
-        packet_of(setup),
+        packet_of(c.setup),
         phase,
-        &bytes[..n],
-        &pm[..m],
-        &mut log[..w],
+        &s.bytes[..c.count.min(131072)],
+        s.state.lent(),
+        log,
     )
 }
 
-fn begin_bulk_in(s: State, c: Bulk, bytes: &[u8], pm: &[u8], log: &mut [u32]) -> Begun {
-    let d = s.driver;
-    let n = within(c.count, bytes);
-    let m = within(s.memory, pm);
-    let w = within_words(s.words, log);
-    d.begin_bulk_in(
-        c.address,
-        c.endpoint,
-        c.size,
-        kind_of(c.variable),
-        c.toggle,
-        &bytes[..n],
-        &pm[..m],
-        &mut log[..w],
-    )
+fn begin_bulk(s: &mut Session, direction: Direction, b: Bulk, log: &mut [u32]) -> Begun {
+    let driver = s.state.driver;
+    let kind = kind_of(b.variable);
+    let buf = &s.bytes[..b.count.min(131072)];
+    match direction {
+        Direction::In => driver.begin_bulk_in(
+            b.address,
+            b.endpoint,
+            b.size,
+            kind,
+            b.toggle,
+            buf,
+            s.state.lent(),
+            log,
+        ),
+        Direction::Out => driver.begin_bulk_out(
+            b.address,
+            b.endpoint,
+            b.size,
+            kind,
+            b.toggle,
+            buf,
+            s.state.lent_mut(),
+            log,
+        ),
+    }
 }
 
-fn begin_bulk_out(s: State, c: Bulk, bytes: &[u8], pm: &mut [u8], log: &mut [u32]) -> Begun {
-    let d = s.driver;
-    let n = within(c.count, bytes);
-    let m = within(s.memory, pm);
-    let w = within_words(s.words, log);
-    d.begin_bulk_out(
-        c.address,
-        c.endpoint,
-        c.size,
-        kind_of(c.variable),
-        c.toggle,
-        &bytes[..n],
-        &mut pm[..m],
-        &mut log[..w],
-    )
-}
+impl Begin {
+    fn on(self, s: &mut Session, log: &mut [u32]) -> Begun {
+        match self {
+            Begin::Control(phase, c) => begin_control(s, phase, c, log),
+            Begin::Bulk(direction, b) => begin_bulk(s, direction, b, log),
+        }
+    }
 
-pub fn control(
-    s: State,
-    c: Control,
-    phase: DataPhase,
-    pm: &[u8],
-    buf: &mut [u8],
-    bytes: &[u8],
-    record: &mut [u8],
-    out: &mut [u8],
-) -> State {
-    let mut log = [0xA5A5_A5A5u32; 192];
-    let old = copy_of(pm);
-    let b = begin_control(s, c, phase, bytes, pm, &mut log);
-    let s = keep(s, b, c.count, false, buf, bytes);
-    finish(s, b, &old, pm, &log, record, out)
-}
-
-fn bulk_in(
-    s: State,
-    c: Bulk,
-    pm: &[u8],
-    buf: &mut [u8],
-    bytes: &[u8],
-    record: &mut [u8],
-    out: &mut [u8],
-) -> State {
-    let mut log = [0xA5A5_A5A5u32; 192];
-    let old = copy_of(pm);
-    let b = begin_bulk_in(s, c, bytes, pm, &mut log);
-    let s = keep(s, b, c.count, true, buf, bytes);
-    finish(s, b, &old, pm, &log, record, out)
-}
-
-pub fn bulk_out(
-    s: State,
-    c: Bulk,
-    pm: &mut [u8],
-    buf: &mut [u8],
-    bytes: &[u8],
-    record: &mut [u8],
-    out: &mut [u8],
-) -> State {
-    let mut log = [0xA5A5_A5A5u32; 192];
-    let old = copy_of(pm);
-    let b = begin_bulk_out(s, c, bytes, pm, &mut log);
-    let s = keep(s, b, c.count, true, buf, bytes);
-    finish(s, b, &old, pm, &log, record, out)
-}
-
-pub fn control_in(
-    s: State,
-    c: Control,
-    pm: &[u8],
-    buf: &mut [u8],
-    bytes: &mut [u8; 131072],
-    record: &mut [u8],
-    out: &mut [u8],
-) -> State {
-    zero(bytes);
-    control(s, c, DataPhase::In, pm, buf, bytes, record, out)
-}
-
-pub fn bulk_in_zero(
-    s: State,
-    c: Bulk,
-    pm: &[u8],
-    buf: &mut [u8],
-    bytes: &mut [u8; 131072],
-    record: &mut [u8],
-    out: &mut [u8],
-) -> State {
-    zero(bytes);
-    bulk_in(s, c, pm, buf, bytes, record, out)
+    // An IN's buffer is all 0 at first.
+    pub fn play<W: Write>(self, s: &mut Session, out: &mut W) -> io::Result<()> {
+        let mut log = Log::new();
+        let old = s.state.pm;
+        if self.is_in() {
+            s.bytes = [0; 131072];
+        }
+        let words = log.lent(s.state.words);
+        let begun = self.on(s, words);
+        if begun.answer.is_ok() {
+            s.keep(self.count(), self.is_bulk());
+        }
+        s.state.driver = begun.next;
+        print_answer(out, begun.answer.map(|()| "begun"))?;
+        s.state.finish(begun.armed, begun.writes, &old, &log, out)
+    }
 }

@@ -1,51 +1,37 @@
 // One line of a script.
-use crate::begin::{bulk_in_zero, bulk_out, control, control_in};
-use script::command::{Call, Command};
+use crate::begin::Begin;
+use script::command::Command;
 use script::line::parse;
-use session::read::{Place, is_too_long, text_of};
-use session::state::State;
+use session::play::Session;
+use session::player::Play;
+use std::io;
+use std::io::Write;
 use transfers::host_controller::DataPhase;
+use transfers::wire::Direction;
 
-fn run(
-    s: State,
-    number: u64,
-    c: Command,
-    pm: &mut [u8],
-    buf: &mut [u8],
-    own: &mut [u8],
-    bytes: &mut [u8; 131072],
-    record: &mut [u8],
-    out: &mut [u8],
-) -> State {
-    match c {
-        Command::ControlIn(c) => control_in(s, c, pm, buf, bytes, record, out),
-        Command::ControlOut(c) => control(s, c, DataPhase::Out, pm, buf, bytes, record, out),
-        Command::ControlNone(c) => control(s, c, DataPhase::None, pm, buf, bytes, record, out),
-        Command::BulkIn(c) => bulk_in_zero(s, c, pm, buf, bytes, record, out),
-        Command::BulkOut(c) => bulk_out(s, c, pm, buf, bytes, record, out),
-        Command::Other(c) => { session::play::run(s, number, c, pm, buf, own, bytes, record, out) }
+#[derive(Drop)]
+pub struct Replay {
+    session: Session,
+}
+
+impl Replay {
+    pub(crate) fn new() -> Replay {
+        Replay {
+            session: Session::new(),
+        }
     }
 }
 
-fn command_of(p: Place, line: &[u8], bytes: &mut [u8; 131072]) -> Command {
-    let text = text_of(p, line);
-    if is_too_long(p, text) {
-        return Command::Other(Call::Wrong);
+impl Play for Replay {
+    fn play<W: Write>(&mut self, number: usize, text: &[u8], out: &mut W) -> io::Result<()> {
+        let begin = match parse(text, &mut self.session.bytes) {
+            Command::ControlIn(c) => Begin::Control(DataPhase::In, c),
+            Command::ControlOut(c) => Begin::Control(DataPhase::Out, c),
+            Command::ControlNone(c) => Begin::Control(DataPhase::None, c),
+            Command::BulkIn(b) => Begin::Bulk(Direction::In, b),
+            Command::BulkOut(b) => Begin::Bulk(Direction::Out, b),
+            Command::Other(call) => return self.session.run(number, call, out),
+        };
+        begin.play(&mut self.session, out)
     }
-    parse(text, bytes)
-}
-
-pub fn play(
-    s: State,
-    p: Place,
-    line: &[u8; 300000],
-    pm: &mut [u8; 4096],
-    buf: &mut [u8; 131072],
-    own: &mut [u8; 131072],
-    bytes: &mut [u8; 131072],
-    record: &mut [u8; 131072],
-    out: &mut [u8; 1048576],
-) -> State {
-    let c = command_of(p, line, bytes);
-    run(s, p.lines, c, pm, buf, own, bytes, record, out)
 }

@@ -1,4 +1,5 @@
 -- Open says 10 where all 15 pipes are open and only there, and else opens a pipe that was not open. Assumes nothing.
+use Rattle.std.specs.Prelude.{None, Ok, Option, Some}
 use mathlib.Core.Path.{◌≡◌, refl, ap, sym, ◌∙◌}
 use mathlib.Core.Bool.{Bool, true, false, not, true≢false}
 use mathlib.Core.List.{List}
@@ -8,11 +9,7 @@ use lib.Dec.{ltb}
 use borrow.Author.Tests.{ltb-false, not-false}
 use Rattle.pool.specs.declared.bitset.BitSet.{BitSet}
 use Rattle.pool.specs.declared.async_pool.PoolIndex.{PoolIndex}
-use Rattle.pool.specs.declared.async_pool.OptionIndex.{OptionIndex}
-use Rattle.pool.specs.declared.async_pool.OptionIndex.TheVariants.{Some as SomeIndex, None as NoIndex}
 use Rattle.pool.specs.declared.pipe.PipeNumber.{PipeNumber}
-use Rattle.pool.specs.declared.pipe.OptionPipe.{OptionPipe}
-use Rattle.pool.specs.declared.pipe.OptionPipe.TheVariants.{Some as SomePipe, None as NoPipe}
 use Rattle.pool.specs.Set.{has}
 use Rattle.pool.specs.Pool.{alloc_of}
 use Rattle.pool.specs.Pipe.{offset, pipes, pipe_of, Counted}
@@ -21,7 +18,6 @@ use Rattle.pool.proofs.Sets.{first, first_is}
 use Rattle.pool.proofs.Pipes.{index_of_lem, index_of_pipe}
 use Rattle.transfers.specs.declared.host_controller.TransferExtras.{TransferExtras}
 use Rattle.transfers.specs.declared.driver.Driver.{Driver}
-use Rattle.transfers.specs.declared.pipes.OpenAnswer.TheVariants.{Pipe as OpenPipe}
 use Rattle.transfers.specs.Reply.{result, number}
 use Rattle.transfers.specs.Memory.{log_fits}
 use Rattle.transfers.specs.State.{address_good, endpoint_good, size_good}
@@ -41,9 +37,9 @@ open_has p n h k e =
 has_open : (p : BitSet) (n : PipeNumber) → is_open p n ≡ true → (at : PoolIndex) → Counted at n → has p.0 at.0 ≡ true
 has_open p n e at c = go (index_open p n) refl e
   where
-    go : (o : OptionIndex) → index_open p n ≡ o → is_some o ≡ true → has p.0 at.0 ≡ true
-    go NoIndex f g = absurd (true≢false (sym g))
-    go (SomeIndex i) f g =
+    go : (o : Option PoolIndex) → index_open p n ≡ o → is_some o ≡ true → has p.0 at.0 ≡ true
+    go None f g = absurd (true≢false (sym g))
+    go (Some i) f g =
         let h = open_some p n i f in
         let same : i.0 ≡ at.0 = omega arith in
         ap (has p.0) (sym same) ∙ h.1
@@ -88,26 +84,26 @@ ten_exactly = record {
 
 -- The pipe that is opened was not open.
 pub opens_shut : (d : Driver) (address : ℕ) (extras : TransferExtras) (endpoint size interval : ℕ) (log : List ℕ) (n : PipeNumber)
-    → (opening d address extras endpoint size interval log).answer ≡ OpenPipe n → is_open d.pipes.opened n ≡ false
+    → (opening d address extras endpoint size interval log).answer ≡ Ok n → is_open d.pipes.opened n ≡ false
 unfolding opening_pipe open_free index_open
 opens_shut d address extras endpoint size interval log n =
     go (log_fits log) (address_good address) (endpoint_good endpoint) (size_good size)
   where
-    number : (at : PoolIndex) → (alloc_of (pool_of d.pipes.opened)).index ≡ SomeIndex at → (o : OptionPipe) → pipe_of at ≡ o
-        → (open_number o at (alloc_of (pool_of d.pipes.opened)).pool.allocated d.pipes address extras endpoint size interval).answer ≡ OpenPipe n
+    number : (at : PoolIndex) → (alloc_of (pool_of d.pipes.opened)).index ≡ Some at → (o : Option PipeNumber) → pipe_of at ≡ o
+        → (open_number o at (alloc_of (pool_of d.pipes.opened)).pool.allocated d.pipes address extras endpoint size interval).answer ≡ Ok n
         → is_open d.pipes.opened n ≡ false
-    number at e NoPipe f s = absurd (let z : ◌≡◌ {A = ℕ} 0 1 = cc in omega arith)
-    number at e (SomePipe m) f s =
+    number at e None f s = absurd (let z : ◌≡◌ {A = ℕ} 0 1 = cc in omega arith)
+    number at e (Some m) f s =
         let same : m ≡ n = cc in
-        rw (index_of_pipe at n (f ∙ ap (λ k. SomePipe k) same), (alloc_some (pool_of d.pipes.opened) at e).2)
+        rw (index_of_pipe at n (f ∙ ap (λ k. Some k) same), (alloc_some (pool_of d.pipes.opened) at e).2)
 
-    index : (o : OptionIndex) → (alloc_of (pool_of d.pipes.opened)).index ≡ o
-        → (open_index o (alloc_of (pool_of d.pipes.opened)).pool.allocated d.pipes address extras endpoint size interval).answer ≡ OpenPipe n
+    index : (o : Option PoolIndex) → (alloc_of (pool_of d.pipes.opened)).index ≡ o
+        → (open_index o (alloc_of (pool_of d.pipes.opened)).pool.allocated d.pipes address extras endpoint size interval).answer ≡ Ok n
         → is_open d.pipes.opened n ≡ false
-    index NoIndex e s = absurd (let z : ◌≡◌ {A = ℕ} 0 1 = cc in omega arith)
-    index (SomeIndex at) e s = number at e (pipe_of at) refl s
+    index None e s = absurd (let z : ◌≡◌ {A = ℕ} 0 1 = cc in omega arith)
+    index (Some at) e s = number at e (pipe_of at) refl s
 
-    go : (l a e f : Bool) → (open_if l a e f d.pipes address extras endpoint size interval).answer ≡ OpenPipe n
+    go : (l a e f : Bool) → (open_if l a e f d.pipes address extras endpoint size interval).answer ≡ Ok n
         → is_open d.pipes.opened n ≡ false
     go false a e f s = absurd (let z : ◌≡◌ {A = ℕ} 0 1 = cc in omega arith)
     go true false e f s = absurd (let z : ◌≡◌ {A = ℕ} 0 1 = cc in omega arith)

@@ -1,4 +1,5 @@
 -- A slot armed by the driver IN is one armed by the samples. Assumes nothing.
+use Rattle.std.specs.Prelude.{None, Option, Some}
 use mathlib.Core.Path.{◌≡◌, refl, sym, ap, ap₂, ◌∙◌, subst}
 use mathlib.Core.Bool.{Bool, true, false, not, ◌&&◌}
 use mathlib.Core.List.{List, [], ◌∷◌, ◌++◌, map, append_assoc}
@@ -9,12 +10,8 @@ use lib.ListN.{length}
 use borrow.Author.Tests.{ltb-true, ltb-false, lt-ltb, le-ltb}
 use Rattle.pool.proofs.Cases.{by_cases}
 use Rattle.cutting.specs.declared.packetiser.Arm.{Arm}
-use Rattle.cutting.specs.declared.packetiser.OptionArm.{OptionArm}
-use Rattle.cutting.specs.declared.packetiser.OptionArm.TheVariants.{Some, None}
-use Rattle.cutting.specs.declared.packetiser.Next.{Next}
-use Rattle.cutting.specs.declared.packetiser.Next.TheVariants.{Packet as sends, End}
 use Rattle.cutting.specs.declared.packetiser.InPacketiser.{InPacketiser}
-use Rattle.cutting.specs.declared.packetiser.InNext.{InNext}
+use Rattle.cutting.specs.declared.packetiser.Next.{Next}
 use Rattle.cutting.specs.Cut.{Packet, packet}
 use Rattle.cutting.specs.Counters.{next_of, pid_of, in_gives, in_next}
 use Rattle.cutting.specs.Left.{InLeft, stop_in, go_in}
@@ -34,15 +31,15 @@ use Rattle.rules.proofs.Retired.{slot_more}
 pub no_arm : {A : Type 0} (a : Arm) → None ≡ Some a → A
 no_arm a e = absurd (let z : ◌≡◌ {A = ℕ} 0 1 = cc in omega arith)
 
-record After (c : InPacketiser) (v : InNext) : Type 0 where
+record After (c : InPacketiser) (v : Next InPacketiser) : Type 0 where
   size : v.rest.size ≡ c.size
   pid : v.rest.pid ≡ c.pid
   none : v.arm ≡ None → v.rest ≡ c
   some : (a : Arm) → v.arm ≡ Some a → v.rest.slot ≡ not c.slot
 
-after : (x : Next) (c : InPacketiser) → After c (in_gives x c)
-after End c = record { size = refl; pid = refl; none = λ e. refl; some = λ a e. no_arm a e }
-after (sends n last) c =
+after : (x : Option (ℕ × Bool)) (c : InPacketiser) → After c (in_gives x c)
+after None c = record { size = refl; pid = refl; none = λ e. refl; some = λ a e. no_arm a e }
+after (Some (n, last)) c =
     record { size = refl; pid = refl; none = λ e. no_arm (record { slot = c.slot; pid = pid_of c.pid c.slot; last = last; length = c.size }) (sym e); some = λ a e. refl }
 
 next_after : (c : InPacketiser) → After c (in_next c)
@@ -67,11 +64,11 @@ arm_end w c k e = by (may_arm w k c.slot)
   where
     by : (v : Bool) → in_arm_if v c k ≡ kept c k
     by false = refl
-    by true = ap (λ (x : OptionArm). in_armed x (in_next c).rest k) e ∙ ap (λ (d : InPacketiser). kept d k) ((next_after c).none e)
+    by true = ap (λ (x : Option Arm). in_armed x (in_next c).rest k) e ∙ ap (λ (d : InPacketiser). kept d k) ((next_after c).none e)
 
 arm_go : (w : ℕ) (c : InPacketiser) (k : ℕ) (a : Arm) → may_arm w k c.slot ≡ true → (in_next c).arm ≡ Some a → in_arm w c k ≡ arming c k a
 unfolding in_arm
-arm_go w c k a q e = ap (λ (v : Bool). in_arm_if v c k) q ∙ ap (λ (x : OptionArm). in_armed x (in_next c).rest k) e
+arm_go w c k a q e = ap (λ (v : Bool). in_arm_if v c k) q ∙ ap (λ (x : Option Arm). in_armed x (in_next c).rest k) e
 
 -- ---- the driver's counters, with so many armed and retired
 

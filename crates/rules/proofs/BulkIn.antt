@@ -1,4 +1,5 @@
 -- Every list of steps from a bulk IN begin to its done hands the caller what the samples tell, and arms what the cutting says. Assumes nothing.
+use Rattle.std.specs.Prelude.{None, Ok, Option, Some}
 use mathlib.Core.Path.{◌≡◌, refl, sym, ap, ap₂, ◌∙◌, subst}
 use mathlib.Core.Bool.{Bool, true, false}
 use mathlib.Core.List.{List, [], ◌∷◌, ◌++◌, map, append_assoc, append-nil}
@@ -10,10 +11,6 @@ use lib.Seq.{take_at}
 use Rattle.cutting.specs.declared.transfer_type.TransferType.{TransferType}
 use Rattle.cutting.specs.Cut.{Packet, in_cut_of}
 use Rattle.transfers.specs.declared.wire.Direction.TheVariants.{In}
-use Rattle.transfers.specs.declared.answers.BeginAnswer.TheVariants.{Begun}
-use Rattle.transfers.specs.declared.answers.StepAnswer.TheVariants.{Done}
-use Rattle.transfers.specs.declared.driver.Transfer.{Transfer}
-use Rattle.transfers.specs.declared.driver.Transfer.TheVariants.{Idle, Busy}
 use Rattle.transfers.specs.declared.driver.Request.{Request}
 use Rattle.transfers.specs.declared.driver.Stage.TheVariants.{In as in_stage}
 use Rattle.transfers.specs.declared.driver.InStage.{InStage}
@@ -32,6 +29,8 @@ use Rattle.cutting.proofs.Rules.{map_append}
 use Rattle.rules.proofs.Armed.{armings_append, none_armed}
 use Rattle.rules.proofs.InStage.{Stands, Comes, fails, goes, finishes, comes, starts_armed, starts, start_events}
 use Rattle.rules.proofs.Steps.{absurd_done, done_is, tally_end, tally_more, tally_none, after_more, writes_more, writes_none, after_none, idle_next, idle_not, toggled_slot, kept_moved, accepted, none_idle}
+use Rattle.transfers.specs.declared.answers.Step.TheVariants.{Done}
+use Rattle.transfers.specs.declared.driver.Run.{Run}
 
 module _ (a e p : ℕ) (k : TransferType) (b : Bool) (first : List ℕ) (few : length first ≤ 0xFFFF) (low : 1 ≤ p) (high : p ≤ 64) where
   abbrev bulk_x : Request
@@ -48,15 +47,15 @@ module _ (a e p : ℕ) (k : TransferType) (b : Bool) (first : List ℕ) (few : l
 
   -- `ws`: the writes so far.
   data BulkAt (h : Running) (s : Tally) (ws : List Write) : Type 0 where
-    over : h.transfer ≡ Idle → BulkAt h s ws
-    under : (st : InStage) (past ls : List (Packet ℕ)) → h.transfer ≡ Busy (record { request = bulk_x; stage = in_stage st }) → well_formed h.transfer ≡ true
+    over : h.transfer ≡ None → BulkAt h s ws
+    under : (st : InStage) (past ls : List (Packet ℕ)) → h.transfer ≡ Some (record { request = bulk_x; stage = in_stage st }) → well_formed h.transfer ≡ true
         → Stands bulk_x many (length first) first few fit st h.buffer s ls → cut_slots ≡ past ++ ls → ((old : ℕ) → armings old ws ≡ map (shown false) past) → BulkAt h s ws
 
   -- The step of a transfer under way.
-  step_comes : (h : Running) (s : Tally) (y : StepCall) (st : InStage) (ls : List (Packet ℕ)) → h.transfer ≡ Busy (record { request = bulk_x; stage = in_stage st }) → well_formed h.transfer ≡ true
+  step_comes : (h : Running) (s : Tally) (y : StepCall) (st : InStage) (ls : List (Packet ℕ)) → h.transfer ≡ Some (record { request = bulk_x; stage = in_stage st }) → well_formed h.transfer ≡ true
       → Stands bulk_x many (length first) first few fit st h.buffer s ls → Comes bulk_x many (length first) first few fit y s ls (step_in h y)
   step_comes h s y st ls e w d =
-      subst (λ (t : Transfer). Comes bulk_x many (length first) first few fit y s ls (step_in (record { transfer = t; buffer = h.buffer }) y)) (sym e)
+      subst (λ (t : Option Run). Comes bulk_x many (length first) first few fit y s ls (step_in (record { transfer = t; buffer = h.buffer }) y)) (sym e)
       (comes bulk_x many (length first) first few fit y st h.buffer s ls refl (sym (ap well_formed e) ∙ w) refl d)
 
   on_step : (h : Running) (s : Tally) (ws : List Write) (y : StepCall) → BulkAt h s ws → BulkAt (after_step (step_in h y)) (tally_step many y s) (ws ++ (step_in h y).writes)
@@ -78,14 +77,14 @@ module _ (a e p : ℕ) (k : TransferType) (b : Bool) (first : List ℕ) (few : l
       (subst (BulkAt (after_steps true (after_step (step_in h y)) ys) (tallied many (tally_step many y s) ys)) (append_assoc ws (step_in h y).writes (writes_of true (after_step (step_in h y)) ys))
       (on_steps ys (after_step (step_in h y)) (tally_step many y s) (ws ++ (step_in h y).writes) (on_step h s ws y q)))
 
-  at_end : (h : Running) (s : Tally) (ws : List Write) (y : StepCall) (count : ℕ) → BulkAt h s ws → (step_in h y).answer ≡ Done count
-      → Moved (length first) first (tally_step many y s).retired count (step_in h y).buffer × ((step_in h y).toggle ≡ toggled b (tally_step many y s).retired) × ((step_in h y).next ≡ Idle)
+  at_end : (h : Running) (s : Tally) (ws : List Write) (y : StepCall) (count : ℕ) → BulkAt h s ws → (step_in h y).answer ≡ Ok (Done count)
+      → Moved (length first) first (tally_step many y s).retired count (step_in h y).buffer × ((step_in h y).toggle ≡ toggled b (tally_step many y s).retired) × ((step_in h y).next ≡ None)
       × ((old : ℕ) → armings old (step_in h y).writes ≡ [])
   at_end h s ws y count (over e) q = absurd_done (step_in h y).answer count (idle_not true h y e) q
   at_end h s ws y count (under st past ls e w d sp ev) q = by (step_comes h s y st ls e w d)
     where
       by : Comes bulk_x many (length first) first few fit y s ls (step_in h y)
-          → Moved (length first) first (tally_step many y s).retired count (step_in h y).buffer × ((step_in h y).toggle ≡ toggled b (tally_step many y s).retired) × ((step_in h y).next ≡ Idle)
+          → Moved (length first) first (tally_step many y s).retired count (step_in h y).buffer × ((step_in h y).toggle ≡ toggled b (tally_step many y s).retired) × ((step_in h y).next ≡ None)
           × ((old : ℕ) → armings old (step_in h y).writes ≡ [])
       by (fails u f) = absurd_done (step_in h y).answer count f q
       by (goes st' now rest u v d' f sq eq) = absurd_done (step_in h y).answer count f q
@@ -99,14 +98,14 @@ module _ (a e p : ℕ) (k : TransferType) (b : Bool) (first : List ℕ) (few : l
           )
 
   -- While it is under way.
-  so_far : (h : Running) (s : Tally) (ws : List Write) (old : ℕ) → BulkAt h s ws → (h.transfer ≡ Idle → ⊥) → armings old ws ≡ map (shown false) (take s.armed cut_slots)
+  so_far : (h : Running) (s : Tally) (ws : List Write) (old : ℕ) → BulkAt h s ws → (h.transfer ≡ None → ⊥) → armings old ws ≡ map (shown false) (take s.armed cut_slots)
   so_far h s ws old (over e) n = absurd (n e)
   so_far h s ws old (under st past ls e w d sp ev) n =
       let z : length past ≡ s.armed = let u = d.standing.many in let v = ap length sp ∙ length-append past ls in omega arith in
       ev old ∙ ap (map (shown false)) (sym (ap (take s.armed) sp ∙ take_at past ls s.armed z))
 
 -- A bulk IN begin that is accepted.
-module _ (t : Transfer) (a e p : ℕ) (k : TransferType) (b : Bool) (first m log : List ℕ) (q : (begin_bulk_in_of t a e p k b first m log).answer ≡ Begun) where
+module _ (t : Option Run) (a e p : ℕ) (k : TransferType) (b : Bool) (first m log : List ℕ) (q : (begin_bulk_in_of t a e p k b first m log).answer ≡ Ok tt) where
   record Fine : Type 0 where
     few : length first ≤ 0xFFFF
     low : 1 ≤ p
@@ -144,7 +143,7 @@ module _ (t : Transfer) (a e p : ℕ) (k : TransferType) (b : Bool) (first m log
   bulk_at : (ys : List StepCall) → BulkAt a e p k b first begins_fine.few begins_fine.low begins_fine.high (after_steps true opened ys) (tallied many_slots (tally_start many_slots) ys) ((begin_bulk_in_of t a e p k b first m log).writes ++ writes_of true opened ys)
   bulk_at ys = let g = begins_fine in on_steps a e p k b first g.few g.low g.high ys opened (tally_start many_slots) (begin_bulk_in_of t a e p k b first m log).writes g.at
 
-  pub bulk_armed : (ys : List StepCall) (old : ℕ) → ((after_steps true opened ys).transfer ≡ Idle → ⊥)
+  pub bulk_armed : (ys : List StepCall) (old : ℕ) → ((after_steps true opened ys).transfer ≡ None → ⊥)
       → armings old ((begin_bulk_in_of t a e p k b first m log).writes ++ writes_of true opened ys) ≡ map (shown false) (take (tallied many_slots (tally_start many_slots) ys).armed (in_cut_of k p b (length first)))
   bulk_armed ys old n =
       let g = begins_fine in
@@ -152,10 +151,10 @@ module _ (t : Transfer) (a e p : ℕ) (k : TransferType) (b : Bool) (first m log
 
   pub bulk_ended : (ys : List StepCall) (y : StepCall) (count : ℕ) → let o = step_in (after_steps true opened ys) y in
       let got = received many_slots (ys ++ (y ∷ [])) in
-      o.answer ≡ Done count → Moved (length first) first got count o.buffer × (o.toggle ≡ toggled b got) × (o.next ≡ Idle) × ((old : ℕ) → armings old o.writes ≡ [])
+      o.answer ≡ Ok (Done count) → Moved (length first) first got count o.buffer × (o.toggle ≡ toggled b got) × (o.next ≡ None) × ((old : ℕ) → armings old o.writes ≡ [])
   bulk_ended ys y count d =
       let g = begins_fine in
       let o = step_in (after_steps true opened ys) y in
-      subst (λ (u : Tally). Moved (length first) first u.retired count o.buffer × (o.toggle ≡ toggled b u.retired) × (o.next ≡ Idle) × ((old : ℕ) → armings old o.writes ≡ []))
+      subst (λ (u : Tally). Moved (length first) first u.retired count o.buffer × (o.toggle ≡ toggled b u.retired) × (o.next ≡ None) × ((old : ℕ) → armings old o.writes ≡ []))
       (sym (tally_end many_slots ys y (tally_start many_slots)))
       (at_end a e p k b first g.few g.low g.high (after_steps true opened ys) (tallied many_slots (tally_start many_slots) ys) ((begin_bulk_in_of t a e p k b first m log).writes ++ writes_of true opened ys) y count (bulk_at ys) d)

@@ -1,4 +1,5 @@
 -- The same of a control In, through its three stages. Assumes nothing.
+use Rattle.std.specs.Prelude.{None, Ok, Option, Result, Some}
 use mathlib.Core.Path.{◌≡◌, refl, sym, ap, ap₂, ◌∙◌, subst}
 use mathlib.Core.Bool.{Bool, true, false, not, ◌&&◌}
 use mathlib.Core.List.{List, [], ◌∷◌, ◌++◌, map, append_assoc, append-nil}
@@ -15,17 +16,10 @@ use Rattle.cutting.specs.Cut.{Packet, packet, in_cut_of}
 use Rattle.transfers.specs.declared.host_controller.UsbError.{UsbError}
 use Rattle.transfers.specs.declared.host_controller.TransferExtras.{TransferExtras}
 use Rattle.transfers.specs.declared.host_controller.DataPhase.TheVariants.{In as phase_in}
-use Rattle.transfers.specs.declared.refusal.OptionRefusal.{OptionRefusal}
-use Rattle.transfers.specs.declared.refusal.OptionRefusal.TheVariants.{None}
 use Rattle.transfers.specs.declared.wire.SetupPacket.{SetupPacket}
 use Rattle.transfers.specs.declared.wire.Direction.TheVariants.{Out}
-use Rattle.transfers.specs.declared.answers.BeginAnswer.TheVariants.{Begun}
-use Rattle.transfers.specs.declared.answers.StepAnswer.TheVariants.{Done}
-use Rattle.transfers.specs.declared.sample.Poll.{Poll}
 use Rattle.transfers.specs.declared.sample.Found.{Found}
 use Rattle.transfers.specs.declared.sample.Found.TheVariants.{Complete, Failed, Neither}
-use Rattle.transfers.specs.declared.driver.Transfer.{Transfer}
-use Rattle.transfers.specs.declared.driver.Transfer.TheVariants.{Idle, Busy}
 use Rattle.transfers.specs.declared.driver.Run.{Run}
 use Rattle.transfers.specs.declared.driver.Request.{Request}
 use Rattle.transfers.specs.declared.driver.Kind.TheVariants.{Control as control}
@@ -57,6 +51,8 @@ use Rattle.cutting.specs.declared.packetiser.Arm.{Arm}
 use Rattle.cutting.specs.declared.packetiser.OutCounters.{OutCounters}
 use Rattle.cutting.specs.Counters.{out_start}
 use Rattle.rules.proofs.Steps.{absurd_done, done_is, control_tally_end, control_tally_more, control_tally_none, after_more, writes_more, writes_none, after_none, idle_next, idle_not, kept_moved, accepted, none_idle}
+use Rattle.transfers.specs.declared.answers.Step.TheVariants.{Done}
+use Rattle.transfers.specs.declared.refusal.Refusal.{Refusal}
 
 module _ (a p n : ℕ) (first : List ℕ) (few : n ≤ 0xFFFF) (low : 1 ≤ p) (high : p ≤ 64) where
   abbrev control_x : Request
@@ -65,8 +61,8 @@ module _ (a p n : ℕ) (first : List ℕ) (few : n ≤ 0xFFFF) (low : 1 ≤ p) (
   abbrev slots : ℕ
   slots = length (in_cut_of FixedSize p true n)
 
-  abbrev busy : Stage → Transfer
-  busy st = Busy (record { request = control_x; stage = st })
+  abbrev busy : Stage → Option Run
+  busy st = Some (record { request = control_x; stage = st })
 
   -- ---- SETUP
 
@@ -74,7 +70,7 @@ module _ (a p n : ℕ) (first : List ℕ) (few : n ≤ 0xFFFF) (low : 1 ≤ p) (
   begins = (start_in (target_of control_x) FixedSize false n).stage
 
   data SetupComes (buf : List ℕ) (o : Outcome) : Bool → Type 0 where
-    setup_fails : {b : Bool} → o.next ≡ Idle → not_done o.answer → SetupComes buf o b
+    setup_fails : {b : Bool} → o.next ≡ None → not_done o.answer → SetupComes buf o b
     setup_stays : o.next ≡ busy setup_stage → o.buffer ≡ buf → not_done o.answer → ((old : ℕ) → armings old o.writes ≡ []) → SetupComes buf o false
     setup_ends : n ≤ length first → o.next ≡ busy (in_stage begins) → o.buffer ≡ buf → not_done o.answer
         → ((old : ℕ) → armings old o.writes ≡ armings old (start_in (target_of control_x) FixedSize false n).writes) → SetupComes buf o true
@@ -105,7 +101,7 @@ module _ (a p n : ℕ) (first : List ℕ) (few : n ≤ 0xFFFF) (low : 1 ≤ p) (
       let o = step_polls r y buf (fills_may r refl g) e l in
       subst (λ (u : Outcome). SetupComes buf u (ending y)) (sym o)
       (subst (λ (v : Bool). SetupComes buf (polls (classify y.sample.status y.sample.intr) control_x setup_stage w buf m) (v && (not (quiet y.sample) && complete y.sample))) (sym l)
-      (by_poll y.sample (λ (u : Poll) (q c : Bool). SetupComes buf (polls u control_x setup_stage w buf m) (not q && c))
+      (by_poll y.sample (λ (u : Option Found) (q c : Bool). SetupComes buf (polls u control_x setup_stage w buf m) (not q && c))
       (λ c. setup_stays refl refl (waiting_not false) pending_silent) (setup_completes w buf m) (λ x. setup_failed x w buf m) (setup_neither w buf m))))
       (λ (l : lent_well y ≡ false).
       let z = refused_lent (busy setup_stage) y buf l in
@@ -120,9 +116,9 @@ module _ (a p n : ℕ) (first : List ℕ) (few : n ≤ 0xFFFF) (low : 1 ≤ p) (
     zlp : st.zlp ≡ false
 
   data StatusComes (st : OutStage) (buf : List ℕ) (o : Outcome) : Type 0 where
-    status_fails : o.next ≡ Idle → not_done o.answer → StatusComes st buf o
+    status_fails : o.next ≡ None → not_done o.answer → StatusComes st buf o
     status_stays : (st' : OutStage) → o.next ≡ busy (out_stage st') → Spent st' → st'.received ≡ st.received → o.buffer ≡ buf → not_done o.answer → ((old : ℕ) → armings old o.writes ≡ []) → StatusComes st buf o
-    status_ends : o.next ≡ Idle → o.answer ≡ Done st.received → o.buffer ≡ buf → ((old : ℕ) → armings old o.writes ≡ []) → StatusComes st buf o
+    status_ends : o.next ≡ None → o.answer ≡ Ok (Done st.received) → o.buffer ≡ buf → ((old : ℕ) → armings old o.writes ≡ []) → StatusComes st buf o
 
   module _ (st : OutStage) (buf : List ℕ) (spent : Spent st) (w : ℕ) (m : List ℕ) where
     status_of : (f : Found) → StatusComes st buf (after (polled ∷ []) (keeping true buf (out_step f control_x st w [] m))) → StatusComes st buf (after (polled ∷ []) (stage_step f control_x (out_stage st) w buf m))
@@ -162,7 +158,7 @@ module _ (a p n : ℕ) (first : List ℕ) (few : n ≤ 0xFFFF) (low : 1 ≤ p) (
       (λ (l : lent_well y ≡ true).
       let o = step_polls r y buf (fills_may r refl g) e l in
       subst (StatusComes st buf) (sym o)
-      (by_poll y.sample (λ (u : Poll) (q c : Bool). StatusComes st buf (polls u control_x (out_stage st) w buf m))
+      (by_poll y.sample (λ (u : Option Found) (q c : Bool). StatusComes st buf (polls u control_x (out_stage st) w buf m))
       (λ c. status_stays st refl s refl refl (waiting_not false) pending_silent)
       (status_of st buf s w m Complete (status_completes st buf s w m))
       (λ x. status_of st buf s w m (Failed x) (status_fails_lem st buf s w m x))
@@ -194,7 +190,7 @@ module _ (a p n : ℕ) (first : List ℕ) (few : n ≤ 0xFFFF) (low : 1 ≤ p) (
 
   -- `ws`: the writes so far.
   data ControlAt (h : Running) (ws : List Write) : ControlTally → Type 0 where
-    gone : {f : ControlTally} → h.transfer ≡ Idle → ControlAt h ws f
+    gone : {f : ControlTally} → h.transfer ≡ None → ControlAt h ws f
     at_setup : h.transfer ≡ busy setup_stage → well_formed h.transfer ≡ true → h.buffer ≡ first → ((old : ℕ) → armings old ws ≡ []) → ControlAt h ws in_setup
     at_data : {s : Tally} (st : InStage) (past ls : List (Packet ℕ)) (room : n ≤ length first) → h.transfer ≡ busy (in_stage st) → well_formed h.transfer ≡ true
         → Stands control_x slots n first few room st h.buffer s ls → cut_slots ≡ past ++ ls → ((old : ℕ) → armings old ws ≡ map (shown false) past) → ControlAt h ws (in_data s)
@@ -270,17 +266,17 @@ module _ (a p n : ℕ) (first : List ℕ) (few : n ≤ 0xFFFF) (low : 1 ≤ p) (
 
   setup_step_lem : (h : Running) (y : StepCall) → h.transfer ≡ busy setup_stage → well_formed h.transfer ≡ true → h.buffer ≡ first → SetupComes h.buffer (step_in h y) (ending y)
   setup_step_lem h y e w b =
-      subst (λ (t : Transfer). SetupComes h.buffer (step_in (record { transfer = t; buffer = h.buffer }) y) (ending y)) (sym e) (setup_comes y h.buffer (sym (ap well_formed e) ∙ w) (ap length b))
+      subst (λ (t : Option Run). SetupComes h.buffer (step_in (record { transfer = t; buffer = h.buffer }) y) (ending y)) (sym e) (setup_comes y h.buffer (sym (ap well_formed e) ∙ w) (ap length b))
 
   data_step : (h : Running) (y : StepCall) (s : Tally) (st : InStage) (ls : List (Packet ℕ)) (room : n ≤ length first) → h.transfer ≡ busy (in_stage st) → well_formed h.transfer ≡ true
       → Stands control_x slots n first few room st h.buffer s ls → Comes control_x slots n first few room y s ls (step_in h y)
   data_step h y s st ls room e w d =
-      subst (λ (t : Transfer). Comes control_x slots n first few room y s ls (step_in (record { transfer = t; buffer = h.buffer }) y)) (sym e)
+      subst (λ (t : Option Run). Comes control_x slots n first few room y s ls (step_in (record { transfer = t; buffer = h.buffer }) y)) (sym e)
       (comes control_x slots n first few room y st h.buffer s ls refl (sym (ap well_formed e) ∙ w) refl d)
 
   status_step : (h : Running) (y : StepCall) (st : OutStage) → h.transfer ≡ busy (out_stage st) → well_formed h.transfer ≡ true → Spent st → length h.buffer ≡ length first → StatusComes st h.buffer (step_in h y)
   status_step h y st e w sp l =
-      subst (λ (t : Transfer). StatusComes st h.buffer (step_in (record { transfer = t; buffer = h.buffer }) y)) (sym e) (status_comes y st h.buffer (sym (ap well_formed e) ∙ w) sp l)
+      subst (λ (t : Option Run). StatusComes st h.buffer (step_in (record { transfer = t; buffer = h.buffer }) y)) (sym e) (status_comes y st h.buffer (sym (ap well_formed e) ∙ w) sp l)
 
   control_step : (h : Running) (ws : List Write) (f : ControlTally) (y : StepCall) → ControlAt h ws f → ControlAt (after_step (step_in h y)) (ws ++ (step_in h y).writes) (control_by (ending y) slots y f)
   control_step h ws f y (gone e) = gone (idle_next true h y e)
@@ -297,9 +293,9 @@ module _ (a p n : ℕ) (first : List ℕ) (few : n ≤ 0xFFFF) (low : 1 ≤ p) (
       (control_steps ys (after_step (step_in h y)) (ws ++ (step_in h y).writes) (control_by (ending y) slots y f) (control_step h ws f y q)))
 
   abbrev Ended : (h : Running) (y : StepCall) (count : ℕ) → List (List ℕ) → Type 0
-  Ended h y count got = Moved n first got count (step_in h y).buffer × ((step_in h y).next ≡ Idle) × ((old : ℕ) → armings old (step_in h y).writes ≡ [])
+  Ended h y count got = Moved n first got count (step_in h y).buffer × ((step_in h y).next ≡ None) × ((old : ℕ) → armings old (step_in h y).writes ≡ [])
 
-  control_end : (h : Running) (ws : List Write) (f : ControlTally) (y : StepCall) (count : ℕ) → ControlAt h ws f → (step_in h y).answer ≡ Done count → Ended h y count (retired_in (control_by (ending y) slots y f))
+  control_end : (h : Running) (ws : List Write) (f : ControlTally) (y : StepCall) (count : ℕ) → ControlAt h ws f → (step_in h y).answer ≡ Ok (Done count) → Ended h y count (retired_in (control_by (ending y) slots y f))
   control_end h ws f y count (gone e) q = absurd_done (step_in h y).answer count (idle_not true h y e) q
   control_end h ws f y count (at_setup e w b ev) q = by (ending y) (setup_step_lem h y e w b)
     where
@@ -322,14 +318,14 @@ module _ (a p n : ℕ) (first : List ℕ) (few : n ≤ 0xFFFF) (low : 1 ≤ p) (
       by (status_ends i a₁ u g) = (subst (λ (c : ℕ). Moved n first s.retired c (step_in h y).buffer) (done_is st.received count (sym a₁ ∙ q)) (rw u v), i, g)
 
   -- While it is under way.
-  so_far : (h : Running) (ws : List Write) (f : ControlTally) (old : ℕ) → ControlAt h ws f → (h.transfer ≡ Idle → ⊥) → armings old ws ≡ control_armed cut_slots f
+  so_far : (h : Running) (ws : List Write) (f : ControlTally) (old : ℕ) → ControlAt h ws f → (h.transfer ≡ None → ⊥) → armings old ws ≡ control_armed cut_slots f
   so_far h ws f old (gone e) x = absurd (x e)
   so_far h ws f old (at_setup e w b ev) x = ev old
   so_far h ws f old (at_data {s = s} st past ls room e w d sp ev) x = ev old ∙ ap (map (shown false)) (past_armed st h.buffer s past ls room d sp)
   so_far h ws f old (at_status {s = s} st e w sp v l ev) x = ev old
 
   -- What the caller has by then.
-  has_moved : (h : Running) (ws : List Write) (f : ControlTally) → ControlAt h ws f → (h.transfer ≡ Idle → ⊥) → Moved n first (retired_in f) (min n (sum (map length (retired_in f)))) h.buffer
+  has_moved : (h : Running) (ws : List Write) (f : ControlTally) → ControlAt h ws f → (h.transfer ≡ None → ⊥) → Moved n first (retired_in f) (min n (sum (map length (retired_in f)))) h.buffer
   has_moved h ws f (gone e) x = absurd (x e)
   has_moved h ws f (at_setup e w b ev) x =
       let z : 0 ≡ min n 0 = omega arith in
@@ -341,17 +337,17 @@ module _ (a p n : ℕ) (first : List ℕ) (few : n ≤ 0xFFFF) (low : 1 ≤ p) (
   has_moved h ws f (at_status {s = s} st e w sp v l ev) x = subst (λ (c : ℕ). Moved n first s.retired c h.buffer) v.counted v
 
 -- A control In begin that is accepted.
-module _ (t : Transfer) (a : ℕ) (x : TransferExtras) (p : ℕ) (s : SetupPacket) (first m log : List ℕ) (few : s.wLength ≤ 0xFFFF) (q : (begin_control_of t a x p s phase_in first m log).answer ≡ Begun) where
+module _ (t : Option Run) (a : ℕ) (x : TransferExtras) (p : ℕ) (s : SetupPacket) (first m log : List ℕ) (few : s.wLength ≤ 0xFFFF) (q : (begin_control_of t a x p s phase_in first m log).answer ≡ Ok tt) where
   abbrev begun : Running
   begun = record { transfer = (begin_control_of t a x p s phase_in first m log).next; buffer = first }
 
   abbrev begun_writes : List Write
   begun_writes = (begin_control_of t a x p s phase_in first m log).writes
 
-  abbrev fields : OptionRefusal
+  abbrev fields : Result (Unit {0}) Refusal
   fields = fields_refusal (address_good a) true (size_good p) true
 
-  begins_ok : (begin_refusal (lent_fits m log) (is_idle t) fields ≡ None) × (begin_control_of t a x p s phase_in first m log ≡ begins_control a x p s phase_in (length first) m)
+  begins_ok : (begin_refusal (lent_fits m log) (is_idle t) fields ≡ Ok tt) × (begin_control_of t a x p s phase_in first m log ≡ begins_control a x p s phase_in (length first) m)
   unfolding begin_control_of
   begins_ok = accepted (begin_refusal (lent_fits m log) (is_idle t) fields) t m (begins_control a x p s phase_in (length first) m) q
 
@@ -366,15 +362,15 @@ module _ (t : Transfer) (a : ℕ) (x : TransferExtras) (p : ℕ) (s : SetupPacke
       (at_setup (ap (λ (z : Beginning). z.next) begins_ok.1) (begin_control_well t a x p s phase_in first m log (none_idle (lent_fits m log) t fields begins_ok.0)) refl
       (λ old. ap (λ (z : Beginning). armings old z.writes) begins_ok.1 ∙ setup_silent s a x old))
 
-  pub control_armed_lem : (ys : List StepCall) (old : ℕ) → ((after_steps true begun ys).transfer ≡ Idle → ⊥) → armings old (begun_writes ++ writes_of true begun ys) ≡ control_armed (in_cut_of FixedSize p true s.wLength) (control_tally many_slots in_setup ys)
+  pub control_armed_lem : (ys : List StepCall) (old : ℕ) → ((after_steps true begun ys).transfer ≡ None → ⊥) → armings old (begun_writes ++ writes_of true begun ys) ≡ control_armed (in_cut_of FixedSize p true s.wLength) (control_tally many_slots in_setup ys)
   control_armed_lem ys old y = so_far a p s.wLength first few sizes.0 sizes.1 (after_steps true begun ys) (begun_writes ++ writes_of true begun ys) (control_tally many_slots in_setup ys) old (control_at ys) y
 
-  pub control_so_far : (ys : List StepCall) → ((after_steps true begun ys).transfer ≡ Idle → ⊥)
+  pub control_so_far : (ys : List StepCall) → ((after_steps true begun ys).transfer ≡ None → ⊥)
       → let got = control_received many_slots ys in Moved s.wLength first got (min s.wLength (sum (map length got))) (after_steps true begun ys).buffer
   control_so_far ys y = has_moved a p s.wLength first few sizes.0 sizes.1 (after_steps true begun ys) (begun_writes ++ writes_of true begun ys) (control_tally many_slots in_setup ys) (control_at ys) y
 
   pub control_ended : (ys : List StepCall) (y : StepCall) (count : ℕ) → let o = step_in (after_steps true begun ys) y in
-      o.answer ≡ Done count → Moved s.wLength first (control_received many_slots (ys ++ (y ∷ []))) count o.buffer × (o.next ≡ Idle) × ((old : ℕ) → armings old o.writes ≡ [])
+      o.answer ≡ Ok (Done count) → Moved s.wLength first (control_received many_slots (ys ++ (y ∷ []))) count o.buffer × (o.next ≡ None) × ((old : ℕ) → armings old o.writes ≡ [])
   control_ended ys y count d =
       subst (λ (f : ControlTally). Ended a p s.wLength first few sizes.0 sizes.1 (after_steps true begun ys) y count (retired_in f)) (sym (control_tally_end many_slots ys y in_setup))
       (control_end a p s.wLength first few sizes.0 sizes.1 (after_steps true begun ys) (begun_writes ++ writes_of true begun ys) (control_tally many_slots in_setup ys) y count (control_at ys) d)

@@ -1,4 +1,5 @@
 -- A step's whole log, in each stage of a control transfer. Assumes nothing.
+use Rattle.std.specs.Prelude.{Result, Err, None, Ok, Option, Some}
 use mathlib.Core.Path.{◌≡◌, refl, sym, ap, ◌∙◌, subst}
 use mathlib.Core.Bool.{Bool, true, false, not, cond, ◌&&◌}
 use mathlib.Core.List.{List, [], ◌∷◌, ◌++◌}
@@ -22,13 +23,8 @@ use Rattle.transfers.specs.declared.wire.SetupPacket.{SetupPacket}
 use Rattle.transfers.specs.declared.wire.Direction.{Direction}
 use Rattle.transfers.specs.declared.wire.Direction.TheVariants.{In, Out}
 use Rattle.transfers.specs.declared.writes.Target.{Target}
-use Rattle.transfers.specs.declared.answers.BeginAnswer.TheVariants.{Begun}
-use Rattle.transfers.specs.declared.answers.StepAnswer.TheVariants.{Waiting, Done, Refused}
 use Rattle.transfers.specs.declared.sample.Sample.{Sample}
-use Rattle.transfers.specs.declared.sample.Poll.{Poll}
 use Rattle.transfers.specs.declared.sample.Found.TheVariants.{Complete, Failed, Neither}
-use Rattle.transfers.specs.declared.driver.Transfer.{Transfer}
-use Rattle.transfers.specs.declared.driver.Transfer.TheVariants.{Idle, Busy}
 use Rattle.transfers.specs.declared.driver.Run.{Run}
 use Rattle.transfers.specs.declared.driver.Request.{Request}
 use Rattle.transfers.specs.declared.driver.Kind.{Kind}
@@ -59,6 +55,9 @@ use Rattle.rules.proofs.InStage.{by_poll}
 use Rattle.rules.proofs.Steps.{accepted}
 use Rattle.rules.proofs.Decoded.{in_two_every, out_two_every}
 use Rattle.rules.proofs.GoesOn.{GoesOn, failed_every, neither_every, step_every}
+use Rattle.transfers.specs.declared.answers.Step.{Step}
+use Rattle.transfers.specs.declared.answers.Step.TheVariants.{Done, Waiting}
+use Rattle.transfers.specs.declared.sample.Found.{Found}
 
 -- ---- registers that writes leave alone
 
@@ -126,7 +125,7 @@ module _ (q : ℕ) (o : Other q) where
   -- ---- a step that doesn't wait
 
   abbrev Quits : Outcome → Type 0
-  Quits u = ((again : Bool) → u.answer ≡ Waiting again → ⊥) → Leaves q u.writes
+  Quits u = ((again : Bool) → u.answer ≡ Ok (Waiting again) → ⊥) → Leaves q u.writes
 
   setup_done_quits : (ph : DataPhase) (short : Bool) (x : Request) (n : ℕ) (buf m : List ℕ) → Quits (setup_done ph short x n buf m)
   setup_done_quits phase_in true x n buf m f = tt
@@ -173,7 +172,7 @@ module _ (q : ℕ) (o : Other q) where
 
   module _ (s : Sample) where
     polls_quits : (x : Request) (st : Stage) (buf m : List ℕ) → Quits (polls (classify s.status s.intr) x st s.buffers buf m)
-    polls_quits x st buf m = by_poll s (λ (p : Poll) (a c : Bool). Quits (polls p x st s.buffers buf m))
+    polls_quits x st buf m = by_poll s (λ (p : Option Found) (a c : Bool). Quits (polls p x st s.buffers buf m))
         (λ c f. (o.status, (o.inte, tt)))
         (λ f. (o.status, complete_quits x st s.buffers buf m f))
         (λ e f. (o.status, failed_every (λ r m v. eqb q r ≡ false) goes e x st s.buffers buf m))
@@ -185,19 +184,19 @@ module _ (q : ℕ) (o : Other q) where
     step_if_quits true false r buf m f = tt
     step_if_quits true true r buf m f = polls_quits r.request r.stage buf m f
 
-    step_lent_quits : (l b : Bool) (t : Transfer) (buf m : List ℕ) → Quits (step_lent l b t s buf m)
+    step_lent_quits : (l b : Bool) (t : Option Run) (buf m : List ℕ) → Quits (step_lent l b t s buf m)
     step_lent_quits false b t buf m f = tt
-    step_lent_quits true b Idle buf m f = tt
-    step_lent_quits true b (Busy r) buf m f = step_if_quits (may_step b r) (eqb (length buf) r.request.length) r buf m f
+    step_lent_quits true b None buf m f = tt
+    step_lent_quits true b (Some r) buf m f = step_if_quits (may_step b r) (eqb (length buf) r.request.length) r buf m f
 
-starts_none : (filling : Bool) (t : Transfer) (s : Sample) (buf m log : List ℕ) → ends_stage s ≡ false → StartsNone (step_of filling t s buf m log).writes
+starts_none : (filling : Bool) (t : Option Run) (s : Sample) (buf m log : List ℕ) → ends_stage s ≡ false → StartsNone (step_of filling t s buf m log).writes
 starts_none f t s buf m log e = record {
   sie = step_every (λ r m v. eqb 0x5011_004C r ≡ false) (goes 0x5011_004C sie_other) f t s buf m log e;
   whom = step_every (λ r m v. eqb 0x5011_0000 r ≡ false) (goes 0x5011_0000 whom_other) f t s buf m log e;
   epx = step_every (λ r m v. eqb 0x5010_0100 r ≡ false) (goes 0x5010_0100 epx_other) f t s buf m log e;
 }
 
-ends_none : (filling : Bool) (t : Transfer) (s : Sample) (buf m log : List ℕ) → let u = step_of filling t s buf m log in ((again : Bool) → u.answer ≡ Waiting again → ⊥) → StartsNone u.writes
+ends_none : (filling : Bool) (t : Option Run) (s : Sample) (buf m log : List ℕ) → let u = step_of filling t s buf m log in ((again : Bool) → u.answer ≡ Ok (Waiting again) → ⊥) → StartsNone u.writes
 unfolding step_of
 ends_none b t s buf m log f = record {
   sie = step_lent_quits 0x5011_004C sie_other s (lent_fits m log) b t buf m f;
@@ -238,7 +237,7 @@ module _ (x : Request) where
 
   module _ (st : Stage) (s : Sample) (goes : ends_stage s ≡ false) where
     polls_remains : (buf m : List ℕ) → Remains x st (polls (classify s.status s.intr) x st s.buffers buf m).next
-    polls_remains buf m = by_poll s (λ (p : Poll) (a c : Bool). (not a && c) ≡ false → Remains x st (polls p x st s.buffers buf m).next)
+    polls_remains buf m = by_poll s (λ (p : Option Found) (a c : Bool). (not a && c) ≡ false → Remains x st (polls p x st s.buffers buf m).next)
         (λ c e. onward st refl refl)
         (λ e. no e)
         (λ f e. failed_remains f st s.buffers buf m)
@@ -251,11 +250,11 @@ module _ (x : Request) where
     step_if_remains true false buf m = onward st refl refl
     step_if_remains true true buf m = polls_remains buf m
 
-    step_lent_remains : (l f : Bool) (buf m : List ℕ) → Remains x st (step_lent l f (Busy (record { request = x; stage = st })) s buf m).next
+    step_lent_remains : (l f : Bool) (buf m : List ℕ) → Remains x st (step_lent l f (Some (record { request = x; stage = st })) s buf m).next
     step_lent_remains false f buf m = onward st refl refl
     step_lent_remains true f buf m = step_if_remains (may_step f (record { request = x; stage = st })) (eqb (length buf) x.length) buf m
 
-remains : (filling : Bool) (x : Request) (st : Stage) (s : Sample) (buf m log : List ℕ) → ends_stage s ≡ false → Remains x st (step_of filling (Busy (record { request = x; stage = st })) s buf m log).next
+remains : (filling : Bool) (x : Request) (st : Stage) (s : Sample) (buf m log : List ℕ) → ends_stage s ≡ false → Remains x st (step_of filling (Some (record { request = x; stage = st })) s buf m log).next
 unfolding step_of
 remains f x st s buf m log e = step_lent_remains x st s e (lent_fits m log) f buf m
 
@@ -295,10 +294,10 @@ module _ (t : Target) (n : ℕ) (d : Direction) (ws : List Write) (arm : (q : �
 
 -- ---- a stage that is complete
 
-waiting_refused : {A : Type 0} (r : Refusal) (b : Bool) → Refused r ≡ Waiting b → A
+waiting_refused : {A : Type 0} (r : Refusal) (b : Bool) → Err r ≡ Ok (Waiting b) → A
 waiting_refused r b e = absurd (let z : ◌≡◌ {A = ℕ} 0 1 = cc in omega arith)
 
-waiting_done : {A : Type 0} (n : ℕ) (b : Bool) → Done n ≡ Waiting b → A
+waiting_done : {A : Type 0} (n : ℕ) (b : Bool) → ◌≡◌ {A = Result Step Refusal} (Ok (Done n)) (Ok (Waiting b)) → A
 waiting_done n b e = absurd (let z : ◌≡◌ {A = ℕ} 0 1 = cc in omega arith)
 
 setup_not : (d : Direction) → setup_now ≡ status_now d → ⊥
@@ -317,7 +316,7 @@ module _ (a p : ℕ) (ph : DataPhase) (wLength n old : ℕ) (near : a ≤ 127) w
 
   -- Where it waits, the next stage has begun, and it was not the status.
   unfoldable Goes : ControlStage → Outcome → Type 0
-  Goes c u = (again : Bool) → u.answer ≡ Waiting again → Enters asks (following c ph) (bytes_now wLength (following c ph)) old u × ((d : Direction) → c ≡ status_now d → ⊥)
+  Goes c u = (again : Bool) → u.answer ≡ Ok (Waiting again) → Enters asks (following c ph) (bytes_now wLength (following c ph)) old u × ((d : Direction) → c ≡ status_now d → ⊥)
 
   enters_in_lem : (status : Bool) (k : ℕ) (c : ControlStage) (m buf : List ℕ) → following c ph ≡ later_stage status In → bytes_now wLength (following c ph) ≡ k → ((d : Direction) → c ≡ status_now d → ⊥)
       → Goes c (enters_in asks status k m buf)
@@ -355,11 +354,11 @@ module _ (a p : ℕ) (ph : DataPhase) (wLength n old : ℕ) (near : a ≤ 127) w
         y,
       )
 
-  goes_refused : (c : ControlStage) (u : Outcome) (r : Refusal) → u.answer ≡ Refused r → Goes c u
+  goes_refused : (c : ControlStage) (u : Outcome) (r : Refusal) → u.answer ≡ Err r → Goes c u
   unfolding Goes
   goes_refused c u r e again q = waiting_refused r again (sym e ∙ q)
 
-  goes_done : (c : ControlStage) (u : Outcome) (k : ℕ) → u.answer ≡ Done k → Goes c u
+  goes_done : (c : ControlStage) (u : Outcome) (k : ℕ) → u.answer ≡ Ok (Done k) → Goes c u
   unfolding Goes
   goes_done c u k e again q = waiting_done k again (sym e ∙ q)
 
@@ -443,11 +442,11 @@ module _ (a p : ℕ) (ph : DataPhase) (wLength n : ℕ) (st : Stage) (s : Sample
   held = record { request = control_request a p ph wLength n; stage = st }
 
   abbrev Gone : Outcome → Type 0
-  Gone u = u.answer ≡ Waiting again → Enters (control_request a p ph wLength n) (following (stage_now st) ph) (bytes_now wLength (following (stage_now st) ph)) old u × ((d : Direction) → stage_now st ≡ status_now d → ⊥)
+  Gone u = u.answer ≡ Ok (Waiting again) → Enters (control_request a p ph wLength n) (following (stage_now st) ph) (bytes_now wLength (following (stage_now st) ph)) old u × ((d : Direction) → stage_now st ≡ status_now d → ⊥)
 
   polls_gone : (buf m : List ℕ) → a ≤ 127 → Gone (polls (classify s.status s.intr) held.request st s.buffers buf m)
   unfolding Goes
-  polls_gone buf m near = by_poll s (λ (u : Poll) (q c : Bool). (not q && c) ≡ true → Gone (polls u held.request st s.buffers buf m))
+  polls_gone buf m near = by_poll s (λ (u : Option Found) (q c : Bool). (not q && c) ≡ true → Gone (polls u held.request st s.buffers buf m))
       (λ c e. no (sym e))
       (λ e. goes_after a p ph wLength n old near (stage_now st) (polled ∷ []) (stage_step Complete held.request st s.buffers buf m) polled_leaves (stage_goes a p wLength n old near ph st s.buffers buf m) again)
       (λ f e. no (sym e))
@@ -467,18 +466,18 @@ module _ (a p : ℕ) (ph : DataPhase) (wLength n : ℕ) (st : Stage) (s : Sample
       let g = (both (request_good x) (stage_good x st) (may_parts f held e).1).0 in
       leb-true a 127 (both (address_good a) (size_good p && kind_good x.kind) g).0
 
-  step_lent_gone : (l f : Bool) (buf m : List ℕ) → Gone (step_lent l f (Busy held) s buf m)
+  step_lent_gone : (l f : Bool) (buf m : List ℕ) → Gone (step_lent l f (Some held) s buf m)
   step_lent_gone false f buf m q = waiting_refused _ again q
   step_lent_gone true f buf m q = step_if_gone (may_step f held) (eqb (length buf) n) buf m (near_of f) q
 
-  step_gone : (f : Bool) (buf m log : List ℕ) → Gone (step_of f (Busy held) s buf m log)
+  step_gone : (f : Bool) (buf m log : List ℕ) → Gone (step_of f (Some held) s buf m log)
   unfolding step_of
   step_gone f buf m log q = step_lent_gone (lent_fits m log) f buf m q
 
 -- ---- begin
 
-begin_keeps : (t : Transfer) (a : ℕ) (x : TransferExtras) (p : ℕ) (s : SetupPacket) (ph : DataPhase) (buf m log : List ℕ) → (begin_control_of t a x p s ph buf m log).answer ≡ Begun
-    → (begin_control_of t a x p s ph buf m log).next ≡ Busy (record { request = control_request a p ph s.wLength (length buf); stage = setup_stage })
+begin_keeps : (t : Option Run) (a : ℕ) (x : TransferExtras) (p : ℕ) (s : SetupPacket) (ph : DataPhase) (buf m log : List ℕ) → (begin_control_of t a x p s ph buf m log).answer ≡ Ok tt
+    → (begin_control_of t a x p s ph buf m log).next ≡ Some (record { request = control_request a p ph s.wLength (length buf); stage = setup_stage })
 unfolding begin_control_of
 begin_keeps t a x p s ph buf m log q =
     let ok = accepted (begin_refusal (lent_fits m log) (is_idle t) (fields_refusal (address_good a) true (size_good p) true)) t m (begins_control a x p s ph (length buf) m) q in

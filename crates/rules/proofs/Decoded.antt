@@ -1,4 +1,5 @@
 -- The whole logs of begin, open and poll decode to what the caller asked for. Assumes nothing.
+use Rattle.std.specs.Prelude.{Err, None, Ok, Option, Result, Some}
 use mathlib.Core.Path.{◌≡◌, refl, sym, ap, ◌∙◌, subst}
 use mathlib.Core.Bool.{Bool, true, false, not, cond}
 use mathlib.Core.List.{List, [], ◌∷◌, ◌++◌}
@@ -8,36 +9,24 @@ use lib.Dec.{eqb, leb}
 use lib.ListN.{length}
 use borrow.Author.Tests.{leb-true}
 use Rattle.pool.specs.declared.async_pool.PoolIndex.{PoolIndex}
-use Rattle.pool.specs.declared.async_pool.OptionIndex.{OptionIndex}
-use Rattle.pool.specs.declared.async_pool.OptionIndex.TheVariants.{Some as SomeIndex, None as NoIndex}
 use Rattle.pool.specs.declared.pipe.PipeNumber.{PipeNumber}
-use Rattle.pool.specs.declared.pipe.OptionPipe.{OptionPipe}
-use Rattle.pool.specs.declared.pipe.OptionPipe.TheVariants.{Some as SomePipe, None as NoPipe}
 use Rattle.pool.specs.Pool.{alloc_of}
 use Rattle.pool.specs.Pipe.{offset, pipe_of}
 use Rattle.pool.proofs.Pipes.{pipe_counted}
 use Rattle.cutting.specs.declared.transfer_type.TransferType.{TransferType}
 use Rattle.cutting.specs.declared.packetiser.Arm.{Arm}
-use Rattle.cutting.specs.declared.packetiser.OptionArm.{OptionArm}
-use Rattle.cutting.specs.declared.packetiser.OptionArm.TheVariants.{Some as SomeArm, None as NoArm}
 use Rattle.cutting.specs.declared.packetiser.InPacketiser.{InPacketiser}
 use Rattle.cutting.specs.declared.packetiser.OutCounters.{OutCounters}
 use Rattle.cutting.specs.Counters.{in_start_of, in_next, out_start, out_next}
 use Rattle.transfers.specs.declared.host_controller.DataPhase.{DataPhase}
 use Rattle.transfers.specs.declared.host_controller.TransferExtras.{TransferExtras}
 use Rattle.transfers.specs.declared.refusal.Refusal.{Refusal}
-use Rattle.transfers.specs.declared.refusal.OptionRefusal.{OptionRefusal}
-use Rattle.transfers.specs.declared.refusal.OptionRefusal.TheVariants.{None}
 use Rattle.transfers.specs.declared.wire.SetupPacket.{SetupPacket}
 use Rattle.transfers.specs.declared.wire.Direction.{Direction}
 use Rattle.transfers.specs.declared.wire.Direction.TheVariants.{In, Out}
 use Rattle.transfers.specs.declared.writes.Target.{Target}
-use Rattle.transfers.specs.declared.answers.BeginAnswer.TheVariants.{Begun}
 use Rattle.transfers.specs.declared.pipes.PipeSample.{PipeSample}
-use Rattle.transfers.specs.declared.pipes.OpenAnswer.TheVariants.{Pipe as Opened, Refused as OpenRefused}
-use Rattle.transfers.specs.declared.pipes.PollAnswer.TheVariants.{Packet as PolledPacket}
 use Rattle.transfers.specs.declared.driver.Driver.{Driver}
-use Rattle.transfers.specs.declared.driver.Transfer.{Transfer}
 use Rattle.transfers.specs.Log.{Write, wr, masked}
 use Rattle.transfers.specs.Memory.{log_fits, lent_fits}
 use Rattle.transfers.specs.Registers.{bit}
@@ -56,6 +45,8 @@ use Rattle.rules.specs.Datasheet.{PointsAt, start_of, Starts, SendsSetup, ArmsPi
 use Rattle.rules.proofs.Datasheet.{arms_slot, points, clear, starts as block_starts, setup, opens, polls}
 use Rattle.rules.proofs.Lists.{every_append}
 use Rattle.rules.proofs.Steps.{accepted}
+use Rattle.transfers.specs.declared.driver.Run.{Run}
+use Rattle.transfers.specs.declared.pipes.Poll.TheVariants.{Packet as polled_packet}
 
 -- ---- registers that writes leave alone
 
@@ -77,9 +68,9 @@ first_only q a b old h = after_append q a b old ∙ missed q b (word_after q old
 -- ---- arming
 
 module _ (P : ℕ → ℕ → ℕ → Type 0) (arm : (f : Bool) (a : Arm) → Every P (arm_writes f a)) where
-  in_armed_every : (o : OptionArm) (c : InPacketiser) (k : ℕ) → Every P (in_armed o c k).writes
-  in_armed_every NoArm c k = tt
-  in_armed_every (SomeArm a) c k = arm false a
+  in_armed_every : (o : Option Arm) (c : InPacketiser) (k : ℕ) → Every P (in_armed o c k).writes
+  in_armed_every None c k = tt
+  in_armed_every (Some a) c k = arm false a
 
   in_arm_every : (w : ℕ) (c : InPacketiser) (k : ℕ) → Every P (in_arm w c k).writes
   unfolding in_arm
@@ -93,9 +84,9 @@ module _ (P : ℕ → ℕ → ℕ → Type 0) (arm : (f : Bool) (a : Arm) → Ev
   unfolding in_arm_two
   in_two_every w c k = let g = in_arm w c k in every_append P g.writes (in_arm w g.packets g.inflight).writes (in_arm_every w c k) (in_arm_every w g.packets g.inflight)
 
-  out_armed_every : (o : OptionArm) (c : OutCounters) (k off : ℕ) (buf m : List ℕ) → Every P (out_armed o c k off buf m).writes
-  out_armed_every NoArm c k off buf m = tt
-  out_armed_every (SomeArm a) c k off buf m = arm true a
+  out_armed_every : (o : Option Arm) (c : OutCounters) (k off : ℕ) (buf m : List ℕ) → Every P (out_armed o c k off buf m).writes
+  out_armed_every None c k off buf m = tt
+  out_armed_every (Some a) c k off buf m = arm true a
 
   out_arm_every : (w : ℕ) (c : OutCounters) (k : ℕ) (buf m : List ℕ) → Every P (out_arm w c k buf m).writes
   unfolding out_arm
@@ -176,16 +167,16 @@ out_start_lem t k n buf m old h e =
     let arm : (q : ℕ) → eqb q 0x5010_0080 ≡ false → eqb q 0 ≡ false → Misses q (out_arm_two 0 c 0 buf m).writes = λ q u z. out_two_every (λ r m v. eqb q r ≡ false) (arm_misses q u z) 0 c 0 buf m in
     (stage_points t n Out (out_arm_two 0 c 0 buf m).writes arm old h e, stage_starts t n Out (out_arm_two 0 c 0 buf m).writes arm old)
 
-module _ (t : Transfer) (a e p : ℕ) (k : TransferType) (b : Bool) (first m log : List ℕ) where
-  abbrev fields : OptionRefusal
+module _ (t : Option Run) (a e p : ℕ) (k : TransferType) (b : Bool) (first m log : List ℕ) where
+  abbrev fields : Result (Unit {0}) Refusal
   fields = fields_refusal (address_good a) (endpoint_good e) (size_good p) (leb (length first) 0xFFFF)
 
-  bounds : begin_refusal (lent_fits m log) (is_idle t) fields ≡ None → (a ≤ 127) × (e ≤ 15)
+  bounds : begin_refusal (lent_fits m log) (is_idle t) fields ≡ Ok tt → (a ≤ 127) × (e ≤ 15)
   bounds q =
       let f = none_fields (lent_fits m log) (is_idle t) (address_good a) (endpoint_good e) (size_good p) (leb (length first) 0xFFFF) q in
       (leb-true a 127 f.0, (between 1 e 15 f.1).1)
 
-  bulk_in : (old : ℕ) → (begin_bulk_in_of t a e p k b first m log).answer ≡ Begun
+  bulk_in : (old : ℕ) → (begin_bulk_in_of t a e p k b first m log).answer ≡ Ok tt
       → PointsAt a e p (length first) old (begin_bulk_in_of t a e p k b first m log).writes × Starts In old (begin_bulk_in_of t a e p k b first m log).writes
   unfolding begin_bulk_in_of
   bulk_in old q =
@@ -194,7 +185,7 @@ module _ (t : Transfer) (a e p : ℕ) (k : TransferType) (b : Bool) (first m log
       let g = bounds ok.0 in
       subst (λ (o : Beginning). PointsAt a e p (length first) old o.writes × Starts In old o.writes) (sym ok.1) (in_start (target_of x) k (length first) old g.0 g.1)
 
-  bulk_out : (old : ℕ) → (begin_bulk_out_of t a e p k b first m log).answer ≡ Begun
+  bulk_out : (old : ℕ) → (begin_bulk_out_of t a e p k b first m log).answer ≡ Ok tt
       → PointsAt a e p (length first) old (begin_bulk_out_of t a e p k b first m log).writes × Starts Out old (begin_bulk_out_of t a e p k b first m log).writes
   unfolding begin_bulk_out_of
   bulk_out old q =
@@ -203,9 +194,9 @@ module _ (t : Transfer) (a e p : ℕ) (k : TransferType) (b : Bool) (first m log
       let g = bounds ok.0 in
       subst (λ (o : Beginning). PointsAt a e p (length first) old o.writes × Starts Out old o.writes) (sym ok.1) (out_start_lem (target_of x) k (length first) first m old g.0 g.1)
 
-sends_setup : (t : Transfer) (a : ℕ) (x : TransferExtras) (p : ℕ) (s : SetupPacket) (ph : DataPhase) (first m log : List ℕ) (old : ℕ)
+sends_setup : (t : Option Run) (a : ℕ) (x : TransferExtras) (p : ℕ) (s : SetupPacket) (ph : DataPhase) (first m log : List ℕ) (old : ℕ)
     → s.bmRequestType < 0x100 → s.bRequest < 0x100 → s.wValue < 0x1_0000 → s.wIndex < 0x1_0000 → s.wLength < 0x1_0000
-    → (begin_control_of t a x p s ph first m log).answer ≡ Begun → SendsSetup a x s old (begin_control_of t a x p s ph first m log).writes
+    → (begin_control_of t a x p s ph first m log).answer ≡ Ok tt → SendsSetup a x s old (begin_control_of t a x p s ph first m log).writes
 unfolding begin_control_of
 sends_setup t a x p s ph first m log old b0 b1 b2 b3 b4 q =
     let f = fields_refusal (address_good a) true (size_good p) true in
@@ -215,34 +206,34 @@ sends_setup t a x p s ph first m log old b0 b1 b2 b3 b4 q =
 
 -- ---- pipes
 
-refused_open : {A : Type 0} (e : Refusal) (n : PipeNumber) → OpenRefused e ≡ Opened n → A
+refused_open : {A : Type 0} (e : Refusal) (n : PipeNumber) → Err e ≡ Ok n → A
 refused_open e n q = absurd (let z : ◌≡◌ {A = ℕ} 0 1 = cc in omega arith)
 
-same_pipe : (m n : PipeNumber) → Opened m ≡ Opened n → m ≡ n
+same_pipe : (m n : PipeNumber) → ◌≡◌ {A = Result PipeNumber Refusal} (Ok m) (Ok n) → m ≡ n
 same_pipe m n e = cc
 
 opens_pipe : (d : Driver) (address : ℕ) (extras : TransferExtras) (endpoint size interval : ℕ) (log : List ℕ) (n : PipeNumber) (old : ℕ)
-    → (opening d address extras endpoint size interval log).answer ≡ Opened n → OpensPipe n.0 address extras endpoint size interval old (opening d address extras endpoint size interval log).writes
+    → (opening d address extras endpoint size interval log).answer ≡ Ok n → OpensPipe n.0 address extras endpoint size interval old (opening d address extras endpoint size interval log).writes
 unfolding opening_pipe open_free
 opens_pipe d address extras endpoint size interval log n old =
     go (log_fits log) (address_good address) (endpoint_good endpoint) (size_good size) (leb-true address 127) (between 1 endpoint 15) (between 1 size 64)
   where
-    number : (at : PoolIndex) (l : _) (o : OptionPipe) → pipe_of at ≡ o → address ≤ 127 → endpoint ≤ 15 → size ≤ 64
-        → (open_number o at l d.pipes address extras endpoint size interval).answer ≡ Opened n
+    number : (at : PoolIndex) (l : _) (o : Option PipeNumber) → pipe_of at ≡ o → address ≤ 127 → endpoint ≤ 15 → size ≤ 64
+        → (open_number o at l d.pipes address extras endpoint size interval).answer ≡ Ok n
         → OpensPipe n.0 address extras endpoint size interval old (open_number o at l d.pipes address extras endpoint size interval).writes
-    number at l NoPipe f u v w q = refused_open _ n q
-    number at l (SomePipe i) f u v w q =
+    number at l None f u v w q = refused_open _ n q
+    number at l (Some i) f u v w q =
         let c = pipe_counted at i f in
-        subst (λ (j : PipeNumber). OpensPipe j.0 address extras endpoint size interval old (open_number (SomePipe i) at l d.pipes address extras endpoint size interval).writes) (same_pipe i n q)
+        subst (λ (j : PipeNumber). OpensPipe j.0 address extras endpoint size interval old (open_number (Some i) at l d.pipes address extras endpoint size interval).writes) (same_pipe i n q)
         (opens i.0 address extras endpoint size interval old (omega arith) (omega arith) u v w)
 
-    index : (o : OptionIndex) (l : _) → address ≤ 127 → endpoint ≤ 15 → size ≤ 64 → (open_index o l d.pipes address extras endpoint size interval).answer ≡ Opened n
+    index : (o : Option PoolIndex) (l : _) → address ≤ 127 → endpoint ≤ 15 → size ≤ 64 → (open_index o l d.pipes address extras endpoint size interval).answer ≡ Ok n
         → OpensPipe n.0 address extras endpoint size interval old (open_index o l d.pipes address extras endpoint size interval).writes
-    index NoIndex l u v w q = refused_open _ n q
-    index (SomeIndex at) l u v w q = number at l (pipe_of at) refl u v w q
+    index None l u v w q = refused_open _ n q
+    index (Some at) l u v w q = number at l (pipe_of at) refl u v w q
 
     go : (l a e s : Bool) → (a ≡ true → address ≤ 127) → (e ≡ true → (1 ≤ endpoint) × (endpoint ≤ 15)) → (s ≡ true → (1 ≤ size) × (size ≤ 64))
-        → (open_if l a e s d.pipes address extras endpoint size interval).answer ≡ Opened n
+        → (open_if l a e s d.pipes address extras endpoint size interval).answer ≡ Ok n
         → OpensPipe n.0 address extras endpoint size interval old (open_if l a e s d.pipes address extras endpoint size interval).writes
     go false a e s f g h q = refused_open _ n q
     go true false e s f g h q = refused_open _ n q
@@ -250,17 +241,17 @@ opens_pipe d address extras endpoint size interval log n old =
     go true true true false f g h q = refused_open _ n q
     go true true true true f g h q = let a = alloc_of (pool_of d.pipes.opened) in index a.index a.pool.allocated (f refl) (g refl).1 (h refl).1 q
 
-polls_pipe : (d : Driver) (n : PipeNumber) (s : PipeSample) (m log : List ℕ) (old : ℕ) → (held_of d.pipes n).size ≤ 64 → (polling d n s m log).answer ≡ PolledPacket
+polls_pipe : (d : Driver) (n : PipeNumber) (s : PipeSample) (m log : List ℕ) (old : ℕ) → (held_of d.pipes n).size ≤ 64 → (polling d n s m log).answer ≡ Ok polled_packet
     → ArmsPipe n.0 (not (held_of d.pipes n).toggle) (held_of d.pipes n).size old (polling d n s m log).writes
 unfolding polling_pipe poll_full
 polls_pipe d n s m log old h = go (lent_fits m log) (index_open d.pipes.opened n) (bit 15 s.buffer) refl
   where
-    go : (b : Bool) (o : OptionIndex) (f : Bool) → index_open d.pipes.opened n ≡ o → (poll_if b o f d.pipes n s m).answer ≡ PolledPacket
+    go : (b : Bool) (o : Option PoolIndex) (f : Bool) → index_open d.pipes.opened n ≡ o → (poll_if b o f d.pipes n s m).answer ≡ Ok polled_packet
         → ArmsPipe n.0 (not (held_of d.pipes n).toggle) (held_of d.pipes n).size old (poll_if b o f d.pipes n s m).writes
     go false o f e q = absurd (let z : ◌≡◌ {A = ℕ} 0 1 = cc in omega arith)
-    go true NoIndex f e q = absurd (let z : ◌≡◌ {A = ℕ} 0 1 = cc in omega arith)
-    go true (SomeIndex at) false e q = absurd (let z : ◌≡◌ {A = ℕ} 0 1 = cc in omega arith)
-    go true (SomeIndex at) true e q =
+    go true None f e q = absurd (let z : ◌≡◌ {A = ℕ} 0 1 = cc in omega arith)
+    go true (Some at) false e q = absurd (let z : ◌≡◌ {A = ℕ} 0 1 = cc in omega arith)
+    go true (Some at) true e q =
         let c = (open_some d.pipes.opened n at e).0 in
         let i : n.0 - offset ≡ at.0 = omega arith in
         rw (← i) (polls n.0 (not (held_of d.pipes n).toggle) (held_of d.pipes n).size old h)

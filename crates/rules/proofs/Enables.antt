@@ -1,4 +1,5 @@
 -- Every write to INTE of a begin, a step, an open and a poll. Assumes nothing.
+use Rattle.std.specs.Prelude.{Err, None, Ok, Option, Result, Some}
 use mathlib.Core.Path.{◌≡◌, refl, ap, sym, ◌∙◌}
 use mathlib.Core.Bool.{Bool, true, false, cond, true≢false}
 use mathlib.Core.Logic.{◌⊎◌, inl, inr}
@@ -22,17 +23,11 @@ use Rattle.transfers.specs.declared.host_controller.TransferExtras.{TransferExtr
 use Rattle.transfers.specs.declared.wire.SetupPacket.{SetupPacket}
 use Rattle.transfers.specs.declared.wire.Direction.TheVariants.{In, Out}
 use Rattle.transfers.specs.declared.writes.Target.{Target}
-use Rattle.transfers.specs.declared.refusal.OptionRefusal.{OptionRefusal}
-use Rattle.transfers.specs.declared.refusal.OptionRefusal.TheVariants.{Some as refused, None as accepted}
-use Rattle.transfers.specs.declared.answers.BeginAnswer.TheVariants.{Begun}
 use Rattle.transfers.specs.declared.sample.Sample.{Sample}
-use Rattle.transfers.specs.declared.sample.Poll.TheVariants.{Pending, Ready}
 use Rattle.transfers.specs.declared.sample.Found.{Found}
 use Rattle.transfers.specs.declared.sample.Found.TheVariants.{Complete, Failed, Neither}
 use Rattle.transfers.specs.declared.pipes.PipeSample.{PipeSample}
 use Rattle.transfers.specs.declared.driver.Driver.{Driver}
-use Rattle.transfers.specs.declared.driver.Transfer.{Transfer}
-use Rattle.transfers.specs.declared.driver.Transfer.TheVariants.{Busy}
 use Rattle.transfers.specs.declared.driver.Run.{Run}
 use Rattle.transfers.specs.declared.driver.Request.{Request}
 use Rattle.transfers.specs.declared.driver.Kind.{Kind}
@@ -63,6 +58,7 @@ use Rattle.rules.specs.Enables.{to_inte, seven_for, data_bytes, stage_bytes, tra
 use Rattle.rules.proofs.Decoded.{in_two_every, out_two_every}
 use Rattle.rules.proofs.Steps.{refused_begun}
 use Rattle.rules.proofs.HandsBack.{by_step}
+use Rattle.transfers.specs.declared.refusal.Refusal.{Refusal}
 
 -- ---- lists of writes
 
@@ -243,49 +239,49 @@ stage_sets f x setup_stage w buf m = setup_step_sets f x buf m
 stage_sets f x (in_stage st) w buf m = keeping_sets (in_stage st) st.status buf (in_step f x st w (lent st.status buf) m) (in_step_sets f x st w (lent st.status buf) m)
 stage_sets f x (out_stage st) w buf m = keeping_sets (out_stage st) st.status buf (out_step f x st w (lent st.status buf) m) (out_step_sets f x st w (lent st.status buf) m)
 
-acts_sets : (r : Run) (s : Sample) (buf m : List ℕ) → let o = acts r.request r.stage s buf m in to_inte o.writes ≡ step_sets (quiet s) (Busy r) o.next
+acts_sets : (r : Run) (s : Sample) (buf m : List ℕ) → let o = acts r.request r.stage s buf m in to_inte o.writes ≡ step_sets (quiet s) (Some r) o.next
 unfolding to_inte acts classify
 acts_sets r s buf m = by (quiet s)
   where
     f : Found
     f = cond (bit 18 s.status) Complete (first_of s.status errors)
 
-    by : (q : Bool) → let o = polls (cond q Pending (Ready f)) r.request r.stage s.buffers buf m in to_inte o.writes ≡ step_sets q (Busy r) o.next
+    by : (q : Bool) → let o = polls (cond q None (Some f)) r.request r.stage s.buffers buf m in to_inte o.writes ≡ step_sets q (Some r) o.next
     by true = refl
     by false = stage_sets f r.request r.stage s.buffers buf m
 
-step_sets_lem : (filling : Bool) (t : Transfer) (s : Sample) (buf m log : List ℕ)
+step_sets_lem : (filling : Bool) (t : Option Run) (s : Sample) (buf m log : List ℕ)
     → let o = step_of filling t s buf m log in has_acted (step_reply o.answer) ≡ true → to_inte o.writes ≡ step_sets (quiet s) t o.next
 step_sets_lem filling t s buf m log =
     by_step (λ (o : Outcome). has_acted (step_reply o.answer) ≡ true → to_inte o.writes ≡ step_sets (quiet s) t o.next) filling t s buf m log
     (λ h. absurd (true≢false (sym h))) (λ h. absurd (true≢false (sym h)))
-    (λ r e h. let o = acts r.request r.stage s buf m in acts_sets r s buf m ∙ ap (λ (u : Transfer). step_sets (quiet s) u o.next) (sym e))
+    (λ r e h. let o = acts r.request r.stage s buf m in acts_sets r s buf m ∙ ap (λ (u : Option Run). step_sets (quiet s) u o.next) (sym e))
 
 -- ---- begins
 
-begun_sets : (r : OptionRefusal) (t : Transfer) (m : List ℕ) (b : Beginning) (ws : List Write) → to_inte b.writes ≡ ws → (begin_or r t m b).answer ≡ Begun → to_inte (begin_or r t m b).writes ≡ ws
-begun_sets (refused e) t m b ws h said = refused_begun e said
-begun_sets accepted t m b ws h said = h
+begun_sets : (r : Result (Unit {0}) Refusal) (t : Option Run) (m : List ℕ) (b : Beginning) (ws : List Write) → to_inte b.writes ≡ ws → (begin_or r t m b).answer ≡ Ok tt → to_inte (begin_or r t m b).writes ≡ ws
+begun_sets (Err e) t m b ws h said = refused_begun e said
+begun_sets (Ok tt) t m b ws h said = h
 
-control_none : (r : OptionRefusal) (t : Transfer) (a : ℕ) (x : TransferExtras) (p : ℕ) (s : SetupPacket) (ph : DataPhase) (n : ℕ) (m : List ℕ) → to_inte (begin_or r t m (begins_control a x p s ph n m)).writes ≡ []
+control_none : (r : Result (Unit {0}) Refusal) (t : Option Run) (a : ℕ) (x : TransferExtras) (p : ℕ) (s : SetupPacket) (ph : DataPhase) (n : ℕ) (m : List ℕ) → to_inte (begin_or r t m (begins_control a x p s ph n m)).writes ≡ []
 unfolding to_inte
-control_none (refused e) t a x p s ph n m = refl
-control_none accepted t a x p s ph n m = refl
+control_none (Err e) t a x p s ph n m = refl
+control_none (Ok tt) t a x p s ph n m = refl
 
-begin_control_sets : (t : Transfer) (a : ℕ) (x : TransferExtras) (p : ℕ) (s : SetupPacket) (ph : DataPhase) (buf m log : List ℕ) → to_inte (begin_control_of t a x p s ph buf m log).writes ≡ []
+begin_control_sets : (t : Option Run) (a : ℕ) (x : TransferExtras) (p : ℕ) (s : SetupPacket) (ph : DataPhase) (buf m log : List ℕ) → to_inte (begin_control_of t a x p s ph buf m log).writes ≡ []
 unfolding begin_control_of
 begin_control_sets t a x p s ph buf m log = control_none (begin_refusal (lent_fits m log) (is_idle t) (fields_refusal (address_good a) true (size_good p) true)) t a x p s ph (length buf) m
 
-begin_bulk_in_sets : (t : Transfer) (a e p : ℕ) (k : TransferType) (b : Bool) (buf m log : List ℕ)
-    → let o = begin_bulk_in_of t a e p k b buf m log in o.answer ≡ Begun → to_inte o.writes ≡ seven_for p (length buf)
+begin_bulk_in_sets : (t : Option Run) (a e p : ℕ) (k : TransferType) (b : Bool) (buf m log : List ℕ)
+    → let o = begin_bulk_in_of t a e p k b buf m log in o.answer ≡ Ok tt → to_inte o.writes ≡ seven_for p (length buf)
 unfolding begin_bulk_in_of
 begin_bulk_in_sets t a e p k b buf m log =
     let x = bulk_request In a e p b (length buf) in
     begun_sets (begin_refusal (lent_fits m log) (is_idle t) (fields_refusal (address_good a) (endpoint_good e) (size_good p) (leb (length buf) 0xFFFF))) t m (begins_bulk_in x k m) (seven_for p (length buf))
     (start_in_sets (target_of x) k false (length buf) (length buf) refl)
 
-begin_bulk_out_sets : (t : Transfer) (a e p : ℕ) (k : TransferType) (b : Bool) (buf m log : List ℕ)
-    → let o = begin_bulk_out_of t a e p k b buf m log in o.answer ≡ Begun → to_inte o.writes ≡ seven_for p (length buf)
+begin_bulk_out_sets : (t : Option Run) (a e p : ℕ) (k : TransferType) (b : Bool) (buf m log : List ℕ)
+    → let o = begin_bulk_out_of t a e p k b buf m log in o.answer ≡ Ok tt → to_inte o.writes ≡ seven_for p (length buf)
 unfolding begin_bulk_out_of
 begin_bulk_out_sets t a e p k b buf m log =
     let x = bulk_request Out a e p b (length buf) in

@@ -1,4 +1,5 @@
 -- In a stage that goes on a step arms only slots that its sample shows free. Assumes nothing.
+use Rattle.std.specs.Prelude.{None, Option, Some}
 use mathlib.Core.Path.{◌≡◌, refl, sym, ◌∙◌, subst}
 use mathlib.Core.Bool.{Bool, true, false, not, cond, ◌&&◌}
 use mathlib.Core.List.{List, [], ◌∷◌, ◌++◌}
@@ -7,8 +8,6 @@ use lib.Dec.{eqb, ltb}
 use lib.ListN.{length}
 use borrow.Author.Tests.{not-true}
 use Rattle.cutting.specs.declared.packetiser.Arm.{Arm}
-use Rattle.cutting.specs.declared.packetiser.Next.{Next}
-use Rattle.cutting.specs.declared.packetiser.Next.TheVariants.{Packet, End}
 use Rattle.cutting.specs.declared.packetiser.InPacketiser.{InPacketiser}
 use Rattle.cutting.specs.declared.packetiser.OutCounters.{OutCounters}
 use Rattle.cutting.specs.declared.depacketiser.InDepacketiser.{InDepacketiser}
@@ -16,10 +15,7 @@ use Rattle.cutting.specs.Counters.{next_of, pid_of, in_gives, in_next, out_gives
 use Rattle.cutting.specs.Rules.{All}
 use Rattle.transfers.specs.declared.host_controller.UsbError.{UsbError}
 use Rattle.transfers.specs.declared.sample.Sample.{Sample}
-use Rattle.transfers.specs.declared.sample.Poll.{Poll}
 use Rattle.transfers.specs.declared.sample.Found.TheVariants.{Failed, Neither}
-use Rattle.transfers.specs.declared.driver.Transfer.{Transfer}
-use Rattle.transfers.specs.declared.driver.Transfer.TheVariants.{Idle, Busy}
 use Rattle.transfers.specs.declared.driver.Run.{Run}
 use Rattle.transfers.specs.declared.driver.Request.{Request}
 use Rattle.transfers.specs.declared.driver.Stage.{Stage}
@@ -44,6 +40,7 @@ use Rattle.rules.proofs.Armed.{same_available, armings_append, arms_bare, enable
 use Rattle.rules.proofs.Lists.{all_append}
 use Rattle.rules.proofs.Retired.{no}
 use Rattle.rules.proofs.InStage.{by_poll}
+use Rattle.transfers.specs.declared.sample.Found.{Found}
 
 -- By a sampled word of EP_BUFFER_CONTROL.
 module _ (w : ℕ) where
@@ -80,9 +77,9 @@ module _ (w : ℕ) where
   may_free : (k : ℕ) (s : Bool) → may_arm w k s ≡ true → available w s ≡ false
   may_free k s e = not-true (available w s) (both (ltb k 2) (not (available w s)) e).1
 
-  in_given : (x : Next) (c : InPacketiser) (k : ℕ) → available w c.slot ≡ false → Frees (in_armed (in_gives x c).arm (in_gives x c).rest k).writes
-  in_given End c k e = nothing
-  in_given (Packet n last) c k e = arm_frees false (record { slot = c.slot; pid = pid_of c.pid c.slot; last = last; length = c.size }) e
+  in_given : (x : Option (ℕ × Bool)) (c : InPacketiser) (k : ℕ) → available w c.slot ≡ false → Frees (in_armed (in_gives x c).arm (in_gives x c).rest k).writes
+  in_given None c k e = nothing
+  in_given (Some (n, last)) c k e = arm_frees false (record { slot = c.slot; pid = pid_of c.pid c.slot; last = last; length = c.size }) e
 
   in_arm_frees : (c : InPacketiser) (k : ℕ) → Frees (in_arm w c k).writes
   unfolding in_arm in_next
@@ -96,9 +93,9 @@ module _ (w : ℕ) where
   unfolding in_arm_two
   in_two_frees c k = let g = in_arm w c k in then g.writes (in_arm w g.packets g.inflight).writes (in_arm_frees c k) (in_arm_frees g.packets g.inflight)
 
-  out_given : (x : Next) (c : OutCounters) (k off : ℕ) (buf m : List ℕ) → available w c.slot ≡ false → Frees (out_armed (out_gives x c).arm (out_gives x c).rest k off buf m).writes
-  out_given End c k off buf m e = nothing
-  out_given (Packet n last) c k off buf m e = arm_frees true (record { slot = c.slot; pid = pid_of c.pid c.slot; last = last; length = n }) e
+  out_given : (x : Option (ℕ × Bool)) (c : OutCounters) (k off : ℕ) (buf m : List ℕ) → available w c.slot ≡ false → Frees (out_armed (out_gives x c).arm (out_gives x c).rest k off buf m).writes
+  out_given None c k off buf m e = nothing
+  out_given (Some (n, last)) c k off buf m e = arm_frees true (record { slot = c.slot; pid = pid_of c.pid c.slot; last = last; length = n }) e
 
   out_arm_frees : (c : OutCounters) (k : ℕ) (buf m : List ℕ) → Frees (out_arm w c k buf m).writes
   unfolding out_arm out_next
@@ -106,7 +103,7 @@ module _ (w : ℕ) where
     where
       by : (b : Bool) → (b ≡ true → available w c.slot ≡ false) → Frees (out_arm_if b c k buf m).writes
       by false f = nothing
-      by true f = out_given (cond (ltb (0xFFFF - c.offset) c.remain) End (next_of c.remain c.size c.zlp)) c k c.offset buf m (f refl)
+      by true f = out_given (cond (ltb (0xFFFF - c.offset) c.remain) None (next_of c.remain c.size c.zlp)) c k c.offset buf m (f refl)
 
   out_two_frees : (c : OutCounters) (k : ℕ) (buf m : List ℕ) → Frees (out_arm_two w c k buf m).writes
   unfolding out_arm_two
@@ -171,7 +168,7 @@ module _ (s : Sample) (goes : ends_stage s ≡ false) where
   w = s.buffers
 
   polls_frees : (x : Request) (st : Stage) (buf m : List ℕ) → Frees w (polls (classify s.status s.intr) x st w buf m).writes
-  polls_frees x st buf m = by_poll s (λ (p : Poll) (q c : Bool). (not q && c) ≡ false → Frees w (polls p x st w buf m).writes)
+  polls_frees x st buf m = by_poll s (λ (p : Option Found) (q c : Bool). (not q && c) ≡ false → Frees w (polls p x st w buf m).writes)
       (λ c e. silent w (polled ∷ awaits ∷ []) pending_silent)
       (λ e. no e)
       (λ f e. after_frees w (polled ∷ []) (stage_step (Failed f) x st w buf m).writes polled_silent (failed_frees w f x st buf m))
@@ -184,10 +181,10 @@ module _ (s : Sample) (goes : ends_stage s ≡ false) where
   step_if_frees true false r buf m = nothing w
   step_if_frees true true r buf m = polls_frees r.request r.stage buf m
 
-  step_lent_frees : (l f : Bool) (t : Transfer) (buf m : List ℕ) → Frees w (step_lent l f t s buf m).writes
+  step_lent_frees : (l f : Bool) (t : Option Run) (buf m : List ℕ) → Frees w (step_lent l f t s buf m).writes
   step_lent_frees false f t buf m = nothing w
-  step_lent_frees true f Idle buf m = nothing w
-  step_lent_frees true f (Busy r) buf m = step_if_frees (may_step f r) (eqb (length buf) r.request.length) r buf m
+  step_lent_frees true f None buf m = nothing w
+  step_lent_frees true f (Some r) buf m = step_if_frees (may_step f r) (eqb (length buf) r.request.length) r buf m
 
 pub arms_free : ArmsFree
 unfolding Frees step_of

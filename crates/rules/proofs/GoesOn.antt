@@ -1,4 +1,5 @@
 -- What each write of a step is that ends no stage: enough to know it of the blocks that such a step is made of. Assumes nothing.
+use Rattle.std.specs.Prelude.{None, Option, Some}
 use mathlib.Core.Path.{◌≡◌}
 use mathlib.Core.Bool.{Bool, true, false, not, ◌&&◌}
 use mathlib.Core.List.{List}
@@ -8,10 +9,7 @@ use lib.ListN.{length}
 use Rattle.cutting.specs.declared.packetiser.Arm.{Arm}
 use Rattle.transfers.specs.declared.host_controller.UsbError.{UsbError}
 use Rattle.transfers.specs.declared.sample.Sample.{Sample}
-use Rattle.transfers.specs.declared.sample.Poll.{Poll}
 use Rattle.transfers.specs.declared.sample.Found.TheVariants.{Failed, Neither}
-use Rattle.transfers.specs.declared.driver.Transfer.{Transfer}
-use Rattle.transfers.specs.declared.driver.Transfer.TheVariants.{Idle, Busy}
 use Rattle.transfers.specs.declared.driver.Run.{Run}
 use Rattle.transfers.specs.declared.driver.Request.{Request}
 use Rattle.transfers.specs.declared.driver.Stage.{Stage}
@@ -33,6 +31,7 @@ use Rattle.rules.proofs.Lists.{every_append}
 use Rattle.rules.proofs.Retired.{no}
 use Rattle.rules.proofs.InStage.{by_poll}
 use Rattle.rules.proofs.Decoded.{in_two_every, out_two_every}
+use Rattle.transfers.specs.declared.sample.Found.{Found}
 
 -- Of every slot that is armed, of the interrupts that are enabled, of a poll's own writes and of a ready one's.
 pub record GoesOn (P : ℕ → ℕ → ℕ → Type 0) : Type 0 where
@@ -89,7 +88,7 @@ module _ (P : ℕ → ℕ → ℕ → Type 0) (o : GoesOn P) where
 
   module _ (s : Sample) (goes : ends_stage s ≡ false) where
     polls_every : (x : Request) (st : Stage) (buf m : List ℕ) → Every P (polls (classify s.status s.intr) x st s.buffers buf m).writes
-    polls_every x st buf m = by_poll s (λ (p : Poll) (a c : Bool). (not a && c) ≡ false → Every P (polls p x st s.buffers buf m).writes)
+    polls_every x st buf m = by_poll s (λ (p : Option Found) (a c : Bool). (not a && c) ≡ false → Every P (polls p x st s.buffers buf m).writes)
         (λ c e. (o.poll, (o.wait, tt)))
         (λ e. no e)
         (λ f e. (o.poll, failed_every f x st s.buffers buf m))
@@ -102,11 +101,11 @@ module _ (P : ℕ → ℕ → ℕ → Type 0) (o : GoesOn P) where
     step_if_every true false r buf m = tt
     step_if_every true true r buf m = polls_every r.request r.stage buf m
 
-    step_lent_every : (l f : Bool) (t : Transfer) (buf m : List ℕ) → Every P (step_lent l f t s buf m).writes
+    step_lent_every : (l f : Bool) (t : Option Run) (buf m : List ℕ) → Every P (step_lent l f t s buf m).writes
     step_lent_every false f t buf m = tt
-    step_lent_every true f Idle buf m = tt
-    step_lent_every true f (Busy r) buf m = step_if_every (may_step f r) (eqb (length buf) r.request.length) r buf m
+    step_lent_every true f None buf m = tt
+    step_lent_every true f (Some r) buf m = step_if_every (may_step f r) (eqb (length buf) r.request.length) r buf m
 
-  pub step_every : (filling : Bool) (t : Transfer) (s : Sample) (buf m log : List ℕ) → ends_stage s ≡ false → Every P (step_of filling t s buf m log).writes
+  pub step_every : (filling : Bool) (t : Option Run) (s : Sample) (buf m log : List ℕ) → ends_stage s ≡ false → Every P (step_of filling t s buf m log).writes
   unfolding step_of
   step_every filling t s buf m log e = step_lent_every s e (lent_fits m log) filling t buf m

@@ -1,4 +1,5 @@
 -- What every call leaves alone and what it hands back. Assumes nothing.
+use Rattle.std.specs.Prelude.{Err, None, Ok, Option, Result, Some}
 use mathlib.Core.Path.{◌≡◌, refl, sym, ap, ◌∙◌, subst}
 use mathlib.Core.Bool.{Bool, true, false, cond, true≢false}
 use mathlib.Core.Logic.{◌⊎◌, inl, inr}
@@ -10,8 +11,6 @@ use borrow.Author.Tests.{le-leb}
 use lib.Bits.{bit_and}
 use lib.Dec.{eqb, leb, ltb}
 use lib.ListN.{length, take, replicate}
-use Rattle.pool.specs.declared.async_pool.OptionIndex.{OptionIndex}
-use Rattle.pool.specs.declared.async_pool.OptionIndex.TheVariants.{Some as SomeIndex, None as NoIndex}
 use Rattle.pool.specs.declared.pipe.PipeNumber.{PipeNumber}
 use Rattle.cutting.specs.declared.transfer_type.TransferType.{TransferType}
 use Rattle.cutting.specs.declared.depacketiser.InDepacketiser.{InDepacketiser}
@@ -26,27 +25,12 @@ use Rattle.transfers.specs.declared.wire.SetupPacket.{SetupPacket}
 use Rattle.transfers.specs.declared.wire.Direction.TheVariants.{In, Out}
 use Rattle.transfers.specs.declared.refusal.Refusal.{Refusal}
 use Rattle.transfers.specs.declared.refusal.Refusal.TheVariants.{LentMemory, State}
-use Rattle.transfers.specs.declared.refusal.OptionRefusal.{OptionRefusal}
-use Rattle.transfers.specs.declared.refusal.OptionRefusal.TheVariants.{Some, None}
-use Rattle.transfers.specs.declared.answers.StepAnswer.{StepAnswer}
-use Rattle.transfers.specs.declared.answers.StepAnswer.TheVariants.{Waiting, Done, Refused}
 use Rattle.transfers.specs.declared.sample.Sample.{Sample}
-use Rattle.transfers.specs.declared.sample.Poll.TheVariants.{Pending, Ready}
 use Rattle.transfers.specs.declared.sample.Found.TheVariants.{Complete, Failed, Neither}
 use Rattle.transfers.specs.declared.pipes.PipeSample.{PipeSample}
-use Rattle.transfers.specs.declared.pipes.OpenAnswer.{OpenAnswer}
-use Rattle.transfers.specs.declared.pipes.OpenAnswer.TheVariants.{Pipe as Opened, Refused as OpenRefused}
-use Rattle.transfers.specs.declared.pipes.CloseAnswer.{CloseAnswer}
-use Rattle.transfers.specs.declared.pipes.CloseAnswer.TheVariants.{Closed, Refused as CloseRefused}
-use Rattle.transfers.specs.declared.pipes.PollAnswer.{PollAnswer}
-use Rattle.transfers.specs.declared.pipes.PollAnswer.TheVariants.{Packet as PolledPacket, Waiting as PollWaiting, Refused as PollRefused}
-use Rattle.transfers.specs.declared.detect.DetectAnswer.{DetectAnswer}
-use Rattle.transfers.specs.declared.detect.DetectAnswer.TheVariants.{Changed, Waiting as DetectWaiting, Refused as DetectRefused}
 use Rattle.transfers.specs.declared.driver.DeskRule.{DeskRule}
 use Rattle.transfers.specs.declared.driver.DeskRule.TheVariants.{One, Two}
 use Rattle.transfers.specs.declared.driver.Driver.{Driver}
-use Rattle.transfers.specs.declared.driver.Transfer.{Transfer}
-use Rattle.transfers.specs.declared.driver.Transfer.TheVariants.{Idle, Busy}
 use Rattle.transfers.specs.declared.driver.Run.{Run}
 use Rattle.transfers.specs.declared.driver.Request.{Request}
 use Rattle.transfers.specs.declared.driver.Kind.{Kind}
@@ -76,6 +60,11 @@ use Rattle.transfers.proofs.Untouched.{open_refused, close_refused, poll_refused
 use Rattle.rules.specs.Received.{quiet}
 use Rattle.rules.proofs.GoesOn.{GoesOn, step_every}
 use Rattle.rules.specs.HandsBack.{LeavesAlone, ByRule, HandsOn, none_armed, ends_transfer, has_acted, BeginUntouched, StepUntouched, RefusedUntouched, kind_toggle, came_with, KeepsToggle, Frees, clears_status, enables_waiting, StepWrites, area_bytes, length_out, PollHandsOut, at_speed, status_shown, clears_buffers, HandsBack}
+use Rattle.transfers.specs.declared.answers.Step.TheVariants.{Done, Waiting}
+use Rattle.transfers.specs.declared.answers.Step.{Step}
+use Rattle.pool.specs.declared.async_pool.PoolIndex.{PoolIndex}
+use Rattle.transfers.specs.declared.pipes.Poll.TheVariants.{Packet as polled_packet, Waiting as poll_waiting}
+use Rattle.transfers.specs.declared.pipes.Poll.{Poll}
 
 leaves_alone : LeavesAlone
 leaves_alone = record {
@@ -106,10 +95,10 @@ same_toggle (control c) = refl
 same_toggle (bulk b) = refl
 
 -- By its answer: the toggle handed out, and the next state.
-abbrev pub Fair : Bool → StepAnswer → Bool → Transfer → Type 0
-Fair b (Waiting again) g t = (g ≡ b) × (came_with t ≡ b)
-Fair b (Done count) g t = t ≡ Idle
-Fair b (Refused why) g t = (g ≡ b) × (t ≡ Idle) × (ends_transfer (number_of why) ≡ true)
+abbrev pub Fair : Bool → Result Step Refusal → Bool → Option Run → Type 0
+Fair b (Ok (Waiting again)) g t = (g ≡ b) × (came_with t ≡ b)
+Fair b (Ok (Done count)) g t = t ≡ None
+Fair b (Err why) g t = (g ≡ b) × (t ≡ None) × (ends_transfer (number_of why) ≡ true)
 
 abbrev pub FairOf : Request → Outcome → Type 0
 FairOf x o = Fair (kind_toggle x.kind) o.answer o.toggle o.next
@@ -220,65 +209,65 @@ acts_fair x st s buf m = polled (eqb (bit_and s.intr 0x7F8) 0) (bit 18 s.status)
     error false false false false false true = error_fair CrcError x st w buf m refl
     error false false false false false false = goes_on_fair x st w buf m
 
-    polled : (z c : Bool) → FairOf x (polls (cond z Pending (Ready (cond c Complete (first_of s.status errors)))) x st w buf m)
+    polled : (z c : Bool) → FairOf x (polls (cond z None (Some (cond c Complete (first_of s.status errors)))) x st w buf m)
     polled true c = (same_toggle x.kind, refl)
     polled false true = complete_fair x st w buf m
     polled false false = error (bit 31 s.status) (bit 29 s.status) (bit 26 s.status) (bit 27 s.status) (bit 25 s.status) (bit 24 s.status)
 
 -- ---- every step: refused with 15 or 16, or one that acts
 
-pub by_step : (P : Outcome → Type 0) (filling : Bool) (t : Transfer) (s : Sample) (buf m log : List ℕ)
-    → P (refuses t LentMemory m buf) → P (refuses t State m buf) → ((r : Run) → t ≡ Busy r → P (acts r.request r.stage s buf m)) → P (step_of filling t s buf m log)
+pub by_step : (P : Outcome → Type 0) (filling : Bool) (t : Option Run) (s : Sample) (buf m log : List ℕ)
+    → P (refuses t LentMemory m buf) → P (refuses t State m buf) → ((r : Run) → t ≡ Some r → P (acts r.request r.stage s buf m)) → P (step_of filling t s buf m log)
 unfolding step_of
-by_step P filling Idle s buf m log a b c = go (lent_fits m log)
+by_step P filling None s buf m log a b c = go (lent_fits m log)
   where
-    go : (l : Bool) → P (step_lent l filling Idle s buf m)
+    go : (l : Bool) → P (step_lent l filling None s buf m)
     go false = a
     go true = b
-by_step P filling (Busy r) s buf m log a b c = go (lent_fits m log) (may_step filling r) (eqb (length buf) r.request.length)
+by_step P filling (Some r) s buf m log a b c = go (lent_fits m log) (may_step filling r) (eqb (length buf) r.request.length)
   where
     may : (v n : Bool) → P (step_if v n r s buf m)
     may false n = b
     may true false = a
     may true true = c r refl
 
-    go : (l v n : Bool) → P (step_lent l filling (Busy r) s buf m)
+    go : (l v n : Bool) → P (step_lent l filling (Some r) s buf m)
     go false v n = a
     go true v n = may (may_step filling r) (eqb (length buf) r.request.length)
 
 clash : {A : Type 0} {n : ℕ} {r : StepResult} → number n ≡ result r → A
 clash {n = n} {r = r} e = absurd (let z : ◌≡◌ {A = ℕ} 0 1 = cc in omega arith)
 
-fair_number : (b : Bool) (a : StepAnswer) (g : Bool) (t : Transfer) (n : ℕ) → Fair b a g t → step_reply a ≡ number n → (t ≡ Idle) × (ends_transfer n ≡ true)
-fair_number b (Waiting again) g t n f e = clash (sym e)
-fair_number b (Done count) g t n f e = clash (sym e)
-fair_number b (Refused why) g t n f e = let same : number_of why ≡ n = cc in (f.1, ap ends_transfer (sym same) ∙ f.2)
+fair_number : (b : Bool) (a : Result Step Refusal) (g : Bool) (t : Option Run) (n : ℕ) → Fair b a g t → step_reply a ≡ number n → (t ≡ None) × (ends_transfer n ≡ true)
+fair_number b (Ok (Waiting again)) g t n f e = clash (sym e)
+fair_number b (Ok (Done count)) g t n f e = clash (sym e)
+fair_number b (Err why) g t n f e = let same : number_of why ≡ n = cc in (f.1, ap ends_transfer (sym same) ∙ f.2)
 
-fair_waits : (b : Bool) (a : StepAnswer) (g : Bool) (t : Transfer) (again : Bool) → Fair b a g t → step_reply a ≡ result (waiting again) → came_with t ≡ b
-fair_waits b (Waiting again) g t h f e = f.1
-fair_waits b (Done count) g t h f e = absurd (let z : ◌≡◌ {A = ℕ} 0 1 = cc in omega arith)
-fair_waits b (Refused why) g t h f e = clash e
+fair_waits : (b : Bool) (a : Result Step Refusal) (g : Bool) (t : Option Run) (again : Bool) → Fair b a g t → step_reply a ≡ result (waiting again) → came_with t ≡ b
+fair_waits b (Ok (Waiting again)) g t h f e = f.1
+fair_waits b (Ok (Done count)) g t h f e = absurd (let z : ◌≡◌ {A = ℕ} 0 1 = cc in omega arith)
+fair_waits b (Err why) g t h f e = clash e
 
-fair_done : (b : Bool) (a : StepAnswer) (g : Bool) (t : Transfer) (count : ℕ) → Fair b a g t → step_reply a ≡ result (done count) → t ≡ Idle
-fair_done b (Waiting again) g t h f e = absurd (let z : ◌≡◌ {A = ℕ} 0 1 = cc in omega arith)
-fair_done b (Done count) g t h f e = f
-fair_done b (Refused why) g t h f e = clash e
+fair_done : (b : Bool) (a : Result Step Refusal) (g : Bool) (t : Option Run) (count : ℕ) → Fair b a g t → step_reply a ≡ result (done count) → t ≡ None
+fair_done b (Ok (Waiting again)) g t h f e = absurd (let z : ◌≡◌ {A = ℕ} 0 1 = cc in omega arith)
+fair_done b (Ok (Done count)) g t h f e = f
+fair_done b (Err why) g t h f e = clash e
 
-fair_toggle : (b : Bool) (a : StepAnswer) (g : Bool) (t : Transfer) → Fair b a g t → ((count : ℕ) → step_reply a ≡ result (done count) → ⊥) → g ≡ b
-fair_toggle b (Waiting again) g t f h = f.0
-fair_toggle b (Done count) g t f h = absurd (h count refl)
-fair_toggle b (Refused why) g t f h = f.0
+fair_toggle : (b : Bool) (a : Result Step Refusal) (g : Bool) (t : Option Run) → Fair b a g t → ((count : ℕ) → step_reply a ≡ result (done count) → ⊥) → g ≡ b
+fair_toggle b (Ok (Waiting again)) g t f h = f.0
+fair_toggle b (Ok (Done count)) g t f h = absurd (h count refl)
+fair_toggle b (Err why) g t f h = f.0
 
-held : (t : Transfer) → held_toggle t ≡ came_with t
-held Idle = refl
-held (Busy r) = same_toggle r.request.kind
+held : (t : Option Run) → held_toggle t ≡ came_with t
+held None = refl
+held (Some r) = same_toggle r.request.kind
 
 -- ---- refused
 
-begin_refused : (d : Driver) (r : OptionRefusal) (m : List ℕ) (b : Beginning) (n : ℕ) → begin_reply b.answer ≡ result tt
+begin_refused : (d : Driver) (r : Result (Unit {0}) Refusal) (m : List ℕ) (b : Beginning) (n : ℕ) → begin_reply b.answer ≡ result tt
     → begin_reply (begin_or r d.transfer m b).answer ≡ number n → BeginUntouched d (begin_or r d.transfer m b) m
-begin_refused d (Some e) m b n k h = record { next = refl; armed = refl; writes = refl; memory = refl }
-begin_refused d None m b n k h = absurd (let z : ◌≡◌ {A = ℕ} 0 1 = cc in omega arith)
+begin_refused d (Err e) m b n k h = record { next = refl; armed = refl; writes = refl; memory = refl }
+begin_refused d (Ok tt) m b n k h = absurd (let z : ◌≡◌ {A = ℕ} 0 1 = cc in omega arith)
 
 control_refused : (d : Driver) (a : ℕ) (x : TransferExtras) (p : ℕ) (s : SetupPacket) (ph : DataPhase) (buf m log : List ℕ) (n : ℕ)
     → begin_reply (begin_control_of d.transfer a x p s ph buf m log).answer ≡ number n → BeginUntouched d (begin_control_of d.transfer a x p s ph buf m log) m
@@ -317,31 +306,31 @@ cancel_refused : (d : Driver) (n : ℕ) → cancel_reply (cancel_of d.transfer).
 unfolding cancel_of
 cancel_refused d n = go d.transfer refl
   where
-    stays : (t : Transfer) → d.transfer ≡ t → (v g k : Bool) → cancel_reply (cancel_if v t g k).answer ≡ number n → (dropped d (cancel_if v t g k)).next ≡ d
-    stays t q false g k e = ap (λ (t : Transfer). with_transfer d t d.entries) (sym q)
+    stays : (t : Option Run) → d.transfer ≡ t → (v g k : Bool) → cancel_reply (cancel_if v t g k).answer ≡ number n → (dropped d (cancel_if v t g k)).next ≡ d
+    stays t q false g k e = ap (λ (t : Option Run). with_transfer d t d.entries) (sym q)
     stays t q true g k e = absurd (let z : ◌≡◌ {A = ℕ} 0 1 = cc in omega arith)
 
-    go : (t : Transfer) → d.transfer ≡ t → cancel_reply (cancel_of t).answer ≡ number n → (dropped d (cancel_of t)).next ≡ d
-    go Idle q e = stays Idle q false false false e
-    go (Busy r) q e = stays (Busy r) q (either_serves r) (toggle_in r.request.kind) (toggle_out r.request.kind (stage_parity r.stage)) e
+    go : (t : Option Run) → d.transfer ≡ t → cancel_reply (cancel_of t).answer ≡ number n → (dropped d (cancel_of t)).next ≡ d
+    go None q e = stays None q false false false e
+    go (Some r) q e = stays (Some r) q (either_serves r) (toggle_in r.request.kind) (toggle_out r.request.kind (stage_parity r.stage)) e
 
-open_why : (a : OpenAnswer) (n : ℕ) (A : Type 0) → open_reply a ≡ number n → ((why : Refusal) → a ≡ OpenRefused why → A) → A
-open_why (Opened p) n A e k = absurd (let z : ◌≡◌ {A = ℕ} 0 1 = cc in omega arith)
-open_why (OpenRefused why) n A e k = k why refl
+open_why : (a : Result PipeNumber Refusal) (n : ℕ) (A : Type 0) → open_reply a ≡ number n → ((why : Refusal) → a ≡ Err why → A) → A
+open_why (Ok p) n A e k = absurd (let z : ◌≡◌ {A = ℕ} 0 1 = cc in omega arith)
+open_why (Err why) n A e k = k why refl
 
-close_why : (a : CloseAnswer) (n : ℕ) (A : Type 0) → close_reply a ≡ number n → ((why : Refusal) → a ≡ CloseRefused why → A) → A
-close_why Closed n A e k = absurd (let z : ◌≡◌ {A = ℕ} 0 1 = cc in omega arith)
-close_why (CloseRefused why) n A e k = k why refl
+close_why : (a : Result (Unit {0}) Refusal) (n : ℕ) (A : Type 0) → close_reply a ≡ number n → ((why : Refusal) → a ≡ Err why → A) → A
+close_why (Ok tt) n A e k = absurd (let z : ◌≡◌ {A = ℕ} 0 1 = cc in omega arith)
+close_why (Err why) n A e k = k why refl
 
-poll_why : (a : PollAnswer) (n : ℕ) (A : Type 0) → poll_reply a ≡ number n → ((why : Refusal) → a ≡ PollRefused why → A) → A
-poll_why PolledPacket n A e k = absurd (let z : ◌≡◌ {A = ℕ} 0 1 = cc in omega arith)
-poll_why PollWaiting n A e k = absurd (let z : ◌≡◌ {A = ℕ} 0 1 = cc in omega arith)
-poll_why (PollRefused why) n A e k = k why refl
+poll_why : (a : Result Poll Refusal) (n : ℕ) (A : Type 0) → poll_reply a ≡ number n → ((why : Refusal) → a ≡ Err why → A) → A
+poll_why (Ok polled_packet) n A e k = absurd (let z : ◌≡◌ {A = ℕ} 0 1 = cc in omega arith)
+poll_why (Ok poll_waiting) n A e k = absurd (let z : ◌≡◌ {A = ℕ} 0 1 = cc in omega arith)
+poll_why (Err why) n A e k = k why refl
 
-detect_why : (a : DetectAnswer) (n : ℕ) (A : Type 0) → detect_reply a ≡ number n → ((why : Refusal) → a ≡ DetectRefused why → A) → A
-detect_why (Changed s) n A e k = absurd (let z : ◌≡◌ {A = ℕ} 0 1 = cc in omega arith)
-detect_why DetectWaiting n A e k = absurd (let z : ◌≡◌ {A = ℕ} 0 1 = cc in omega arith)
-detect_why (DetectRefused why) n A e k = k why refl
+detect_why : (a : Result (Option DeviceStatus) Refusal) (n : ℕ) (A : Type 0) → detect_reply a ≡ number n → ((why : Refusal) → a ≡ Err why → A) → A
+detect_why (Ok (Some s)) n A e k = absurd (let z : ◌≡◌ {A = ℕ} 0 1 = cc in omega arith)
+detect_why (Ok None) n A e k = absurd (let z : ◌≡◌ {A = ℕ} 0 1 = cc in omega arith)
+detect_why (Err why) n A e k = k why refl
 
 irq_refused : (ints status : ℕ) (log : List ℕ) (n : ℕ) → irq_reply (waking ints status log).answer ≡ number n → (waking ints status log).writes ≡ []
 unfolding waking
@@ -367,26 +356,26 @@ refuses_all = record {
 
 -- ---- toggles, and the end of a transfer
 
-begun_toggle : (r : OptionRefusal) (t : Transfer) (m : List ℕ) (b : Beginning) (g : Bool) → came_with b.next ≡ g
+begun_toggle : (r : Result (Unit {0}) Refusal) (t : Option Run) (m : List ℕ) (b : Beginning) (g : Bool) → came_with b.next ≡ g
     → begin_reply (begin_or r t m b).answer ≡ result tt → came_with (begin_or r t m b).next ≡ g
-begun_toggle (Some e) t m b g k h = absurd (let z : ◌≡◌ {A = ℕ} 0 1 = cc in omega arith)
-begun_toggle None t m b g k h = k
+begun_toggle (Err e) t m b g k h = absurd (let z : ◌≡◌ {A = ℕ} 0 1 = cc in omega arith)
+begun_toggle (Ok tt) t m b g k h = k
 
-in_toggle : (t : Transfer) (a e p : ℕ) (k : TransferType) (b : Bool) (buf m log : List ℕ)
+in_toggle : (t : Option Run) (a e p : ℕ) (k : TransferType) (b : Bool) (buf m log : List ℕ)
     → begin_reply (begin_bulk_in_of t a e p k b buf m log).answer ≡ result tt → came_with (begin_bulk_in_of t a e p k b buf m log).next ≡ b
 unfolding begin_bulk_in_of
 in_toggle t a e p k b buf m log h =
     begun_toggle (begin_refusal (lent_fits m log) (is_idle t) (fields_refusal (address_good a) (endpoint_good e) (size_good p) (leb (length buf) 0xFFFF))) t m
     (begins_bulk_in (bulk_request In a e p b (length buf)) k m) b refl h
 
-out_toggle : (t : Transfer) (a e p : ℕ) (k : TransferType) (b : Bool) (buf m log : List ℕ)
+out_toggle : (t : Option Run) (a e p : ℕ) (k : TransferType) (b : Bool) (buf m log : List ℕ)
     → begin_reply (begin_bulk_out_of t a e p k b buf m log).answer ≡ result tt → came_with (begin_bulk_out_of t a e p k b buf m log).next ≡ b
 unfolding begin_bulk_out_of
 out_toggle t a e p k b buf m log h =
     begun_toggle (begin_refusal (lent_fits m log) (is_idle t) (fields_refusal (address_good a) (endpoint_good e) (size_good p) (leb (length buf) 0xFFFF))) t m
     (begins_bulk_out (bulk_request Out a e p b (length buf)) e k buf m) b refl h
 
-waits_toggle : (filling : Bool) (t : Transfer) (s : Sample) (buf m log : List ℕ) (again : Bool)
+waits_toggle : (filling : Bool) (t : Option Run) (s : Sample) (buf m log : List ℕ) (again : Bool)
     → step_reply (step_of filling t s buf m log).answer ≡ result (waiting again) → came_with (step_of filling t s buf m log).next ≡ came_with t
 waits_toggle filling t s buf m log again =
     by_step (λ (o : Outcome). step_reply o.answer ≡ result (waiting again) → came_with o.next ≡ came_with t) filling t s buf m log
@@ -394,7 +383,7 @@ waits_toggle filling t s buf m log again =
     (λ r q e. let o = acts r.request r.stage s buf m in
     fair_waits (kind_toggle r.request.kind) o.answer o.toggle o.next again (acts_fair r.request r.stage s buf m) e ∙ sym (ap came_with q))
 
-step_toggle : (filling : Bool) (t : Transfer) (s : Sample) (buf m log : List ℕ)
+step_toggle : (filling : Bool) (t : Option Run) (s : Sample) (buf m log : List ℕ)
     → ((count : ℕ) → step_reply (step_of filling t s buf m log).answer ≡ result (done count) → ⊥) → (step_of filling t s buf m log).toggle ≡ came_with t
 step_toggle filling t s buf m log =
     by_step (λ (o : Outcome). ((count : ℕ) → step_reply o.answer ≡ result (done count) → ⊥) → o.toggle ≡ came_with t) filling t s buf m log
@@ -402,30 +391,30 @@ step_toggle filling t s buf m log =
     (λ r q h. let o = acts r.request r.stage s buf m in
     fair_toggle (kind_toggle r.request.kind) o.answer o.toggle o.next (acts_fair r.request r.stage s buf m) h ∙ sym (ap came_with q))
 
-cancel_toggle : (t : Transfer) → (cancel_of t).toggle ≡ came_with t
+cancel_toggle : (t : Option Run) → (cancel_of t).toggle ≡ came_with t
 unfolding cancel_of
-cancel_toggle Idle = refl
-cancel_toggle (Busy r) = go (either_serves r)
+cancel_toggle None = refl
+cancel_toggle (Some r) = go (either_serves r)
   where
-    go : (v : Bool) → (cancel_if v (Busy r) (toggle_in r.request.kind) (toggle_out r.request.kind (stage_parity r.stage))).toggle ≡ kind_toggle r.request.kind
+    go : (v : Bool) → (cancel_if v (Some r) (toggle_in r.request.kind) (toggle_out r.request.kind (stage_parity r.stage))).toggle ≡ kind_toggle r.request.kind
     go true = same_toggle r.request.kind
     go false = same_toggle r.request.kind
 
 keeps_toggle : KeepsToggle
 keeps_toggle = record { begin_in = in_toggle; begin_out = out_toggle; waits = waits_toggle; step = step_toggle; cancel = cancel_toggle }
 
-done_frees : (filling : Bool) (t : Transfer) (s : Sample) (buf m log : List ℕ) (count : ℕ)
-    → step_reply (step_of filling t s buf m log).answer ≡ result (done count) → (step_of filling t s buf m log).next ≡ Idle
+done_frees : (filling : Bool) (t : Option Run) (s : Sample) (buf m log : List ℕ) (count : ℕ)
+    → step_reply (step_of filling t s buf m log).answer ≡ result (done count) → (step_of filling t s buf m log).next ≡ None
 done_frees filling t s buf m log count =
-    by_step (λ (o : Outcome). step_reply o.answer ≡ result (done count) → o.next ≡ Idle) filling t s buf m log
+    by_step (λ (o : Outcome). step_reply o.answer ≡ result (done count) → o.next ≡ None) filling t s buf m log
     (λ e. clash e) (λ e. clash e)
     (λ r q e. let o = acts r.request r.stage s buf m in
     fair_done (kind_toggle r.request.kind) o.answer o.toggle o.next count (acts_fair r.request r.stage s buf m) e)
 
-failed_frees : (filling : Bool) (t : Transfer) (s : Sample) (buf m log : List ℕ) (n : ℕ)
-    → step_reply (step_of filling t s buf m log).answer ≡ number n → ends_transfer n ≡ true → (step_of filling t s buf m log).next ≡ Idle
+failed_frees : (filling : Bool) (t : Option Run) (s : Sample) (buf m log : List ℕ) (n : ℕ)
+    → step_reply (step_of filling t s buf m log).answer ≡ number n → ends_transfer n ≡ true → (step_of filling t s buf m log).next ≡ None
 failed_frees filling t s buf m log n =
-    by_step (λ (o : Outcome). step_reply o.answer ≡ number n → ends_transfer n ≡ true → o.next ≡ Idle) filling t s buf m log
+    by_step (λ (o : Outcome). step_reply o.answer ≡ number n → ends_transfer n ≡ true → o.next ≡ None) filling t s buf m log
     (λ e h. absurd (true≢false (sym h ∙ ap ends_transfer (sym (is 15 e)))))
     (λ e h. absurd (true≢false (sym h ∙ ap ends_transfer (sym (is 16 e)))))
     (λ r q e h. let o = acts r.request r.stage s buf m in
@@ -434,12 +423,12 @@ failed_frees filling t s buf m log n =
     is : (k : ℕ) → ◌≡◌ {A = Reply StepResult} (number k) (number n) → k ≡ n
     is k e = cc
 
-cancel_frees : (t : Transfer) → cancel_reply (cancel_of t).answer ≡ result tt → (cancel_of t).next ≡ Idle
+cancel_frees : (t : Option Run) → cancel_reply (cancel_of t).answer ≡ result tt → (cancel_of t).next ≡ None
 unfolding cancel_of
-cancel_frees Idle e = refl
-cancel_frees (Busy r) e = go (either_serves r) e
+cancel_frees None e = refl
+cancel_frees (Some r) e = go (either_serves r) e
   where
-    go : (v : Bool) → let o = cancel_if v (Busy r) (toggle_in r.request.kind) (toggle_out r.request.kind (stage_parity r.stage)) in cancel_reply o.answer ≡ result tt → o.next ≡ Idle
+    go : (v : Bool) → let o = cancel_if v (Some r) (toggle_in r.request.kind) (toggle_out r.request.kind (stage_parity r.stage)) in cancel_reply o.answer ≡ result tt → o.next ≡ None
     go true e = refl
     go false e = absurd (let z : ◌≡◌ {A = ℕ} 0 1 = cc in omega arith)
 
@@ -448,15 +437,15 @@ frees_all = record { after_done = done_frees; after_number = failed_frees; after
 
 -- ---- a step's first write
 
-QuietStep : Transfer → List ℕ → List ℕ → Outcome → Type 0
+QuietStep : Option Run → List ℕ → List ℕ → Outcome → Type 0
 QuietStep t buf m o =
     (step_reply o.answer ≡ result (waiting false)) × (o.next ≡ t) × (o.armed ≡ none_armed) × (o.writes ≡ clears_status ∷ enables_waiting ∷ []) × (o.memory ≡ m) × (o.buffer ≡ buf)
 
-acts_quiet : (x : Request) (st : Stage) (s : Sample) (buf m : List ℕ) → quiet s ≡ true → QuietStep (Busy (record { request = x; stage = st })) buf m (acts x st s buf m)
+acts_quiet : (x : Request) (st : Stage) (s : Sample) (buf m : List ℕ) → quiet s ≡ true → QuietStep (Some (record { request = x; stage = st })) buf m (acts x st s buf m)
 unfolding acts classify QuietStep
 acts_quiet x st s buf m = go (quiet s)
   where
-    go : (z : Bool) → z ≡ true → QuietStep (Busy (record { request = x; stage = st })) buf m (polls (cond z Pending (Ready (cond (bit 18 s.status) Complete (first_of s.status errors)))) x st s.buffers buf m)
+    go : (z : Bool) → z ≡ true → QuietStep (Some (record { request = x; stage = st })) buf m (polls (cond z None (Some (cond (bit 18 s.status) Complete (first_of s.status errors)))) x st s.buffers buf m)
     go true e = (refl, refl, refl, refl, refl, refl)
     go false e = absurd (true≢false (sym e))
 
@@ -464,18 +453,18 @@ acts_first : (x : Request) (st : Stage) (s : Sample) (buf m : List ℕ) → take
 unfolding acts classify
 acts_first x st s buf m = go (quiet s)
   where
-    go : (z : Bool) → take 1 (polls (cond z Pending (Ready (cond (bit 18 s.status) Complete (first_of s.status errors)))) x st s.buffers buf m).writes ≡ clears_status ∷ []
+    go : (z : Bool) → take 1 (polls (cond z None (Some (cond (bit 18 s.status) Complete (first_of s.status errors)))) x st s.buffers buf m).writes ≡ clears_status ∷ []
     go true = refl
     go false = refl
 
-quietly : (filling : Bool) (t : Transfer) (s : Sample) (buf m log : List ℕ)
+quietly : (filling : Bool) (t : Option Run) (s : Sample) (buf m log : List ℕ)
     → has_acted (step_reply (step_of filling t s buf m log).answer) ≡ true → quiet s ≡ true → QuietStep t buf m (step_of filling t s buf m log)
 quietly filling t s buf m log =
     by_step (λ (o : Outcome). has_acted (step_reply o.answer) ≡ true → quiet s ≡ true → QuietStep t buf m o) filling t s buf m log
     (λ a q. absurd (true≢false (sym a))) (λ a q. absurd (true≢false (sym a)))
-    (λ r e a q. subst (λ (u : Transfer). QuietStep u buf m (acts r.request r.stage s buf m)) (sym e) (acts_quiet r.request r.stage s buf m q))
+    (λ r e a q. subst (λ (u : Option Run). QuietStep u buf m (acts r.request r.stage s buf m)) (sym e) (acts_quiet r.request r.stage s buf m q))
 
-first_write : (filling : Bool) (t : Transfer) (s : Sample) (buf m log : List ℕ)
+first_write : (filling : Bool) (t : Option Run) (s : Sample) (buf m log : List ℕ)
     → has_acted (step_reply (step_of filling t s buf m log).answer) ≡ true → take 1 (step_of filling t s buf m log).writes ≡ clears_status ∷ []
 first_write filling t s buf m log =
     by_step (λ (o : Outcome). has_acted (step_reply o.answer) ≡ true → take 1 o.writes ≡ clears_status ∷ []) filling t s buf m log
@@ -509,23 +498,23 @@ poll_packet : (d : Driver) (n : PipeNumber) (s : PipeSample) (pm log : List ℕ)
 unfolding polling_pipe poll_full
 poll_packet d n s pm log = go (lent_fits pm log) (index_open d.pipes.opened n) (bit 15 s.buffer)
   where
-    go : (b : Bool) (o : OptionIndex) (f : Bool) → poll_reply (poll_if b o f d.pipes n s pm).answer ≡ result packet → (poll_if b o f d.pipes n s pm).packet ≡ packet_of n.0 s pm
+    go : (b : Bool) (o : Option PoolIndex) (f : Bool) → poll_reply (poll_if b o f d.pipes n s pm).answer ≡ result packet → (poll_if b o f d.pipes n s pm).packet ≡ packet_of n.0 s pm
     go false o f e = absurd (let z : ◌≡◌ {A = ℕ} 0 1 = cc in omega arith)
-    go true NoIndex f e = absurd (let z : ◌≡◌ {A = ℕ} 0 1 = cc in omega arith)
-    go true (SomeIndex at) false e = absurd (let z : ◌≡◌ {A = ℕ} 0 1 = cc in omega arith)
-    go true (SomeIndex at) true e = refl
+    go true None f e = absurd (let z : ◌≡◌ {A = ℕ} 0 1 = cc in omega arith)
+    go true (Some at) false e = absurd (let z : ◌≡◌ {A = ℕ} 0 1 = cc in omega arith)
+    go true (Some at) true e = refl
 
 poll_zeros : (d : Driver) (n : PipeNumber) (s : PipeSample) (pm log : List ℕ) → (poll_reply (polling d n s pm log).answer ≡ result packet → ⊥)
     → (polling d n s pm log).packet ≡ record { address = 0; endpoint = 0; size = 0; «data» = replicate 64 0 }
 unfolding polling_pipe poll_full
 poll_zeros d n s pm log = go (lent_fits pm log) (index_open d.pipes.opened n) (bit 15 s.buffer)
   where
-    go : (b : Bool) (o : OptionIndex) (f : Bool) → (poll_reply (poll_if b o f d.pipes n s pm).answer ≡ result packet → ⊥)
+    go : (b : Bool) (o : Option PoolIndex) (f : Bool) → (poll_reply (poll_if b o f d.pipes n s pm).answer ≡ result packet → ⊥)
         → (poll_if b o f d.pipes n s pm).packet ≡ record { address = 0; endpoint = 0; size = 0; «data» = replicate 64 0 }
     go false o f h = refl
-    go true NoIndex f h = refl
-    go true (SomeIndex at) false h = refl
-    go true (SomeIndex at) true h = absurd (h refl)
+    go true None f h = refl
+    go true (Some at) false h = refl
+    go true (Some at) true h = absurd (h refl)
 
 poll_waits : (d : Driver) (n : PipeNumber) (s : PipeSample) (pm log : List ℕ) → poll_reply (polling d n s pm log).answer ≡ result no_packet
     → ((polling d n s pm log).next ≡ d)
@@ -533,13 +522,13 @@ poll_waits : (d : Driver) (n : PipeNumber) (s : PipeSample) (pm log : List ℕ) 
 unfolding polling_pipe poll_full
 poll_waits d n s pm log = go (lent_fits pm log) (index_open d.pipes.opened n) (bit 15 s.buffer)
   where
-    go : (b : Bool) (o : OptionIndex) (f : Bool) → poll_reply (poll_if b o f d.pipes n s pm).answer ≡ result no_packet
+    go : (b : Bool) (o : Option PoolIndex) (f : Bool) → poll_reply (poll_if b o f d.pipes n s pm).answer ≡ result no_packet
         → (with_pipes d (poll_if b o f d.pipes n s pm).next ≡ d)
         × ((poll_if b o f d.pipes n s pm).writes ≡ wr 0x5011_0090 0x10 0x10 ∷ wr 0x5011_0054 (2 ^ n.0) (2 ^ n.0) ∷ wr 0x5011_0070 0xFFFF_FFFF (3 * 2 ^ (2 * n.0)) ∷ [])
     go false o f e = absurd (let z : ◌≡◌ {A = ℕ} 0 1 = cc in omega arith)
-    go true NoIndex f e = absurd (let z : ◌≡◌ {A = ℕ} 0 1 = cc in omega arith)
-    go true (SomeIndex at) false e = (refl, refl)
-    go true (SomeIndex at) true e = absurd (let z : ◌≡◌ {A = ℕ} 0 1 = cc in omega arith)
+    go true None f e = absurd (let z : ◌≡◌ {A = ℕ} 0 1 = cc in omega arith)
+    go true (Some at) false e = (refl, refl)
+    go true (Some at) true e = absurd (let z : ◌≡◌ {A = ℕ} 0 1 = cc in omega arith)
 
 polls_all : PollHandsOut
 polls_all = record { packets = λ d n s pm log e. poll_packet d n s pm log e ∙ packet_is s pm n.0; zeros = poll_zeros; waits = poll_waits }

@@ -1,4 +1,5 @@
 -- A step in an IN data stage does to the buffer and the counters what its sample tells. Assumes nothing.
+use Rattle.std.specs.Prelude.{Err, None, Ok, Option, Result, Some}
 use mathlib.Core.Path.{◌≡◌, refl, sym, ap, ap₂, ◌∙◌, subst}
 use mathlib.Core.Bool.{Bool, true, false, not, cond, ◌&&◌}
 use mathlib.Core.List.{List, [], ◌∷◌, ◌++◌, map, append-nil}
@@ -17,15 +18,9 @@ use Rattle.cutting.proofs.Cutting.{in_cut}
 use Rattle.transfers.specs.declared.host_controller.UsbError.{UsbError}
 use Rattle.transfers.specs.declared.refusal.Refusal.{Refusal}
 use Rattle.transfers.specs.declared.writes.Target.{Target}
-use Rattle.transfers.specs.declared.answers.StepAnswer.{StepAnswer}
-use Rattle.transfers.specs.declared.answers.StepAnswer.TheVariants.{Waiting, Done, Refused}
 use Rattle.transfers.specs.declared.sample.Sample.{Sample}
-use Rattle.transfers.specs.declared.sample.Poll.{Poll}
-use Rattle.transfers.specs.declared.sample.Poll.TheVariants.{Pending, Ready}
 use Rattle.transfers.specs.declared.sample.Found.{Found}
 use Rattle.transfers.specs.declared.sample.Found.TheVariants.{Complete, Failed, Neither}
-use Rattle.transfers.specs.declared.driver.Transfer.{Transfer}
-use Rattle.transfers.specs.declared.driver.Transfer.TheVariants.{Idle, Busy}
 use Rattle.transfers.specs.declared.driver.Run.{Run}
 use Rattle.transfers.specs.declared.driver.Request.{Request}
 use Rattle.transfers.specs.declared.driver.Stage.TheVariants.{In as in_stage}
@@ -50,15 +45,17 @@ use Rattle.rules.specs.Fields.{word_after}
 use Rattle.rules.specs.Armed.{ArmedSlot, armings, shown}
 use Rattle.rules.proofs.Armed.{armings_append, enable_silent, polled_silent, quiets_silent, completes_silent, pending_silent, none_armed, start_armings}
 use Rattle.rules.proofs.Arms.{Standing, Arming, arm_two_lem, start_armed}
+use Rattle.transfers.specs.declared.answers.Step.TheVariants.{Done, Waiting}
+use Rattle.transfers.specs.declared.answers.Step.{Step}
 
-unfoldable pub not_done : (a : StepAnswer) → Type 0
-not_done a = (n : ℕ) → a ≡ Done n → ⊥
+unfoldable pub not_done : (a : Result Step Refusal) → Type 0
+not_done a = (n : ℕ) → a ≡ Ok (Done n) → ⊥
 
-pub waiting_not : (b : Bool) → not_done (Waiting b)
+pub waiting_not : (b : Bool) → not_done (Ok (Waiting b))
 unfolding not_done
 waiting_not b n e = let z : ◌≡◌ {A = ℕ} 0 1 = cc in omega arith
 
-pub refused_not : (r : Refusal) → not_done (Refused r)
+pub refused_not : (r : Refusal) → not_done (Err r)
 unfolding not_done
 refused_not r n e = let z : ◌≡◌ {A = ℕ} 0 1 = cc in omega arith
 
@@ -69,7 +66,7 @@ abbrev pub ending : StepCall → Bool
 ending y = lent_well y && ends_stage y.sample
 
 -- A transfer that fills is served by `step_in`.
-pub fills_may : (r : Run) → fills r.request.kind ≡ true → well_formed (Busy r) ≡ true → may_step true r ≡ true
+pub fills_may : (r : Run) → fills r.request.kind ≡ true → well_formed (Some r) ≡ true → may_step true r ≡ true
 unfolding served
 fills_may r f h = by_cases (may_step true r) (λ (e : may_step true r ≡ true). e)
     (λ (e : may_step true r ≡ false).
@@ -78,13 +75,13 @@ fills_may r f h = by_cases (may_step true r) (λ (e : may_step true r ≡ true).
     no (sym (sym (ap (same false) f) ∙ s.0)))
 
 pub step_polls : (r : Run) (y : StepCall) (buf : List ℕ) → may_step true r ≡ true → length buf ≡ r.request.length → lent_well y ≡ true
-    → step_in (record { transfer = Busy r; buffer = buf }) y ≡ polls (classify y.sample.status y.sample.intr) r.request r.stage y.sample.buffers buf y.memory
+    → step_in (record { transfer = Some r; buffer = buf }) y ≡ polls (classify y.sample.status y.sample.intr) r.request r.stage y.sample.buffers buf y.memory
 unfolding step_of acts
 step_polls r y buf m n l =
-    ap (λ (v : Bool). step_lent v true (Busy r) y.sample buf y.memory) l
+    ap (λ (v : Bool). step_lent v true (Some r) y.sample buf y.memory) l
     ∙ ap₂ {C = Outcome} (λ (u v : Bool). step_if u v r y.sample buf y.memory) m (eq-eqb (length buf) r.request.length n)
 
-pub refused_lent : (t : Transfer) (y : StepCall) (buf : List ℕ) → lent_well y ≡ false
+pub refused_lent : (t : Option Run) (y : StepCall) (buf : List ℕ) → lent_well y ≡ false
     → ((step_in (record { transfer = t; buffer = buf }) y).next ≡ t) × ((step_in (record { transfer = t; buffer = buf }) y).buffer ≡ buf) × not_done (step_in (record { transfer = t; buffer = buf }) y).answer
     × ((step_in (record { transfer = t; buffer = buf }) y).writes ≡ [])
 unfolding step_of
@@ -106,13 +103,13 @@ found_error w [] e = neither_not e
 found_error w (x ∷ es) e = cond_error (bit x.place w) x.is (first_of w es) (found_error w es) e
 
 -- By what the sample shows: quiet, complete, an error, or none of these.
-pub by_poll : (s : Sample) (P : Poll → Bool → Bool → Type 0)
-    → ((c : Bool) → P Pending true c) → P (Ready Complete) false true → ((e : UsbError) → P (Ready (Failed e)) false false) → P (Ready Neither) false false
+pub by_poll : (s : Sample) (P : Option Found → Bool → Bool → Type 0)
+    → ((c : Bool) → P None true c) → P (Some Complete) false true → ((e : UsbError) → P (Some (Failed e)) false false) → P (Some Neither) false false
     → P (classify s.status s.intr) (quiet s) (complete s)
 unfolding classify
 by_poll s P pending done failed neither = go (quiet s) (complete s) (first_of s.status errors) (found_error s.status errors)
   where
-    go : (q c : Bool) (f : Found) → (f ≡ Complete → ⊥) → P (cond q Pending (Ready (cond c Complete f))) q c
+    go : (q c : Bool) (f : Found) → (f ≡ Complete → ⊥) → P (cond q None (Some (cond c Complete f))) q c
     go true c f n = pending c
     go false true f n = done
     go false false Complete n = absurd (n refl)
@@ -129,8 +126,8 @@ module _ (x : Request) (slots n : ℕ) (first : List ℕ) (few : n ≤ 0xFFFF) (
 
   -- What a step in the stage comes to, with `ls` the slots left to arm.
   pub data Comes (y : StepCall) (s : Tally) (ls : List (Packet ℕ)) (o : Outcome) : Type 0 where
-    fails : o.next ≡ Idle → not_done o.answer → Comes y s ls o
-    goes : (st : InStage) (now rest : List (Packet ℕ)) → ending y ≡ false → o.next ≡ Busy (record { request = x; stage = in_stage st }) → Stands st o.buffer (tally_step slots y s) rest → not_done o.answer
+    fails : o.next ≡ None → not_done o.answer → Comes y s ls o
+    goes : (st : InStage) (now rest : List (Packet ℕ)) → ending y ≡ false → o.next ≡ Some (record { request = x; stage = in_stage st }) → Stands st o.buffer (tally_step slots y s) rest → not_done o.answer
         → ls ≡ now ++ rest → ((old : ℕ) → armings old o.writes ≡ map (shown false) now) → Comes y s ls o
     finishes : (d : InDepacketiser) (buf : List ℕ) → ending y ≡ true → Kept n first few room (tally_step slots y s).retired d buf
         → o.next ≡ (in_done x.kind false x d y.memory buf).next → o.answer ≡ (in_done x.kind false x d y.memory buf).answer
@@ -139,8 +136,8 @@ module _ (x : Request) (slots n : ℕ) (first : List ℕ) (few : n ≤ 0xFFFF) (
 
   -- The same, by the tests of the sample.
   data ComesBy (y : StepCall) (s : Tally) (ls : List (Packet ℕ)) (o : Outcome) : Bool → Bool → Type 0 where
-    fails_by : {q c : Bool} → o.next ≡ Idle → not_done o.answer → ComesBy y s ls o q c
-    goes_by : {q c : Bool} (st : InStage) (now rest : List (Packet ℕ)) → (not q && c) ≡ false → o.next ≡ Busy (record { request = x; stage = in_stage st }) → Stands st o.buffer (tally_by true q c slots y s) rest
+    fails_by : {q c : Bool} → o.next ≡ None → not_done o.answer → ComesBy y s ls o q c
+    goes_by : {q c : Bool} (st : InStage) (now rest : List (Packet ℕ)) → (not q && c) ≡ false → o.next ≡ Some (record { request = x; stage = in_stage st }) → Stands st o.buffer (tally_by true q c slots y s) rest
         → not_done o.answer → ls ≡ now ++ rest → ((old : ℕ) → armings old o.writes ≡ map (shown false) now) → ComesBy y s ls o q c
     finishes_by : (d : InDepacketiser) (buf : List ℕ) → Kept n first few room (retire_two y s).retired d buf
         → o.next ≡ (in_done x.kind false x d y.memory buf).next → o.answer ≡ (in_done x.kind false x d y.memory buf).answer
@@ -247,7 +244,7 @@ module _ (x : Request) (slots n : ℕ) (first : List ℕ) (few : n ≤ 0xFFFF) (
         (after_comes (polled ∷ []) (in_step f x st w buf m) q c polled_silent (after_comes quiets (in_found f x st w buf m) q c quiets_silent k))
 
     polled_comes : ComesBy y s ls (polls (classify y.sample.status y.sample.intr) x (in_stage st) w buf m) (quiet y.sample) (complete y.sample)
-    polled_comes = by_poll y.sample (λ (p : Poll) (q c : Bool). ComesBy y s ls (polls p x (in_stage st) w buf m) q c)
+    polled_comes = by_poll y.sample (λ (p : Option Found) (q c : Bool). ComesBy y s ls (polls p x (in_stage st) w buf m) q c)
         (λ c. goes_by st [] ls refl refl h (waiting_not false) refl pending_silent)
         (ready Complete false true completed)
         (λ e. ready (Failed e) false false (fails_by refl (refused_not _)))
@@ -264,8 +261,8 @@ module _ (x : Request) (slots n : ℕ) (first : List ℕ) (few : n ≤ 0xFFFF) (
   tally_refused y s e = rw e
 
   -- A step in the stage.
-  pub comes : (y : StepCall) (st : InStage) (buf : List ℕ) (s : Tally) (ls : List (Packet ℕ)) → fills x.kind ≡ true → well_formed (Busy (record { request = x; stage = in_stage st })) ≡ true → length first ≡ x.length
-      → Stands st buf s ls → Comes y s ls (step_in (record { transfer = Busy (record { request = x; stage = in_stage st }); buffer = buf }) y)
+  pub comes : (y : StepCall) (st : InStage) (buf : List ℕ) (s : Tally) (ls : List (Packet ℕ)) → fills x.kind ≡ true → well_formed (Some (record { request = x; stage = in_stage st })) ≡ true → length first ≡ x.length
+      → Stands st buf s ls → Comes y s ls (step_in (record { transfer = Some (record { request = x; stage = in_stage st }); buffer = buf }) y)
   comes y st buf s ls f g e h =
       let r : Run = record { request = x; stage = in_stage st } in
       by_cases (lent_well y)
@@ -274,7 +271,7 @@ module _ (x : Request) (slots n : ℕ) (first : List ℕ) (few : n ≤ 0xFFFF) (
       subst (Comes y s ls) (sym o) (by_tests y s ls (polls (classify y.sample.status y.sample.intr) x (in_stage st) y.sample.buffers buf y.memory) (quiet y.sample) (complete y.sample) l refl refl
       (polled_comes y (lent_sizes y.memory y.log l).0 st buf s ls h)))
       (λ (l : lent_well y ≡ false).
-      let z = refused_lent (Busy r) y buf l in
+      let z = refused_lent (Some r) y buf l in
       goes st [] ls (rw l) z.0 (rw (tally_refused y s l, z.1) h) z.2 refl (λ old. ap (armings old) z.3 ∙ none_armed old))
 
   -- ---- the stage at its start

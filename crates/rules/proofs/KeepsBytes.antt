@@ -1,4 +1,5 @@
 -- The caller's buffer at a step's numbers. Assumes nothing.
+use Rattle.std.specs.Prelude.{Err, None, Ok, Option, Result, Some}
 use mathlib.Core.Path.{◌≡◌, refl, sym, ap, ap₂, ◌∙◌, subst}
 use mathlib.Core.Bool.{Bool, true, false, cond, ◌&&◌, true≢false}
 use mathlib.Core.Logic.{◌⊎◌, inl, inr}
@@ -26,17 +27,10 @@ use Rattle.transfers.specs.declared.host_controller.DataPhase.TheVariants.{In as
 use Rattle.transfers.specs.declared.host_controller.TransferExtras.{TransferExtras}
 use Rattle.transfers.specs.declared.wire.SetupPacket.{SetupPacket}
 use Rattle.transfers.specs.declared.wire.Direction.TheVariants.{In}
-use Rattle.transfers.specs.declared.answers.BeginAnswer.TheVariants.{Begun}
-use Rattle.transfers.specs.declared.answers.StepAnswer.{StepAnswer}
-use Rattle.transfers.specs.declared.answers.StepAnswer.TheVariants.{Waiting, Done, Refused}
 use Rattle.transfers.specs.declared.refusal.Refusal.TheVariants.{LentMemory, State}
 use Rattle.transfers.specs.declared.sample.Sample.{Sample}
-use Rattle.transfers.specs.declared.sample.Poll.{Poll}
-use Rattle.transfers.specs.declared.sample.Poll.TheVariants.{Pending, Ready}
 use Rattle.transfers.specs.declared.sample.Found.{Found}
 use Rattle.transfers.specs.declared.sample.Found.TheVariants.{Complete, Failed, Neither}
-use Rattle.transfers.specs.declared.driver.Transfer.{Transfer}
-use Rattle.transfers.specs.declared.driver.Transfer.TheVariants.{Idle, Busy}
 use Rattle.transfers.specs.declared.driver.Run.{Run}
 use Rattle.transfers.specs.declared.driver.Request.{Request}
 use Rattle.transfers.specs.declared.driver.Kind.{Kind}
@@ -66,6 +60,9 @@ use Rattle.rules.specs.KeepsBytes.{packet_stored, buffer_by, buffer_at_nine, pac
 use Rattle.rules.proofs.InStage.{Stands, Comes, fails, goes, finishes, comes, starts_armed, starts}
 use Rattle.rules.proofs.Steps.{tally_more, tally_none, after_more, after_none, idle_next, kept_moved, accepted, none_idle}
 use Rattle.rules.proofs.ControlIn.{control_so_far}
+use Rattle.transfers.specs.declared.answers.Step.TheVariants.{Done, Waiting}
+use Rattle.transfers.specs.declared.refusal.Refusal.{Refusal}
+use Rattle.transfers.specs.declared.answers.Step.{Step}
 
 no : {A : Type 0} → true ≡ false → A
 no e = absurd (true≢false e)
@@ -73,9 +70,9 @@ no e = absurd (true≢false e)
 -- ---- a step that acts, by its answer: a number other than 9 with the buffer as lent and v₀ for desk rule 2's toggle, or 9; else the rules' toggles don't differ
 
 -- The transfer is still under way, as its begin asked for it.
-abbrev pub StaysWith : Request → Transfer → Type 0
-StaysWith x Idle = ⊥
-StaysWith x (Busy r) = r.request ≡ x
+abbrev pub StaysWith : Request → Option Run → Type 0
+StaysWith x None = ⊥
+StaysWith x (Some r) = r.request ≡ x
 
 -- A control transfer has no toggle.
 abbrev pub NoToggle : Kind → Bool → Type 0
@@ -86,10 +83,10 @@ none_out : (k : Kind) → NoToggle k false
 none_out (control c) = refl
 none_out (bulk b) = tt
 
-abbrev pub Keeps : List ℕ → Request → Bool → (List ℕ → Bool → Type 0) → StepAnswer → List ℕ → Bool → Bool → Transfer → Type 0
-Keeps buf x v₀ Nine (Waiting again) b t v n = (v ≡ t) × StaysWith x n
-Keeps buf x v₀ Nine (Done count) b t v n = (v ≡ t) × NoToggle x.kind t
-Keeps buf x v₀ Nine (Refused why) b t v n = ((b ≡ buf) × (v ≡ v₀) × (eqb (number_of why) 9 ≡ false)) ⊎ (Nine b v × (eqb (number_of why) 9 ≡ true))
+abbrev pub Keeps : List ℕ → Request → Bool → (List ℕ → Bool → Type 0) → Result Step Refusal → List ℕ → Bool → Bool → Option Run → Type 0
+Keeps buf x v₀ Nine (Ok (Waiting again)) b t v n = (v ≡ t) × StaysWith x n
+Keeps buf x v₀ Nine (Ok (Done count)) b t v n = (v ≡ t) × NoToggle x.kind t
+Keeps buf x v₀ Nine (Err why) b t v n = ((b ≡ buf) × (v ≡ v₀) × (eqb (number_of why) 9 ≡ false)) ⊎ (Nine b v × (eqb (number_of why) 9 ≡ true))
 
 abbrev pub KeepsOf : List ℕ → Request → Bool → (List ℕ → Bool → Type 0) → Outcome → Type 0
 KeepsOf buf x v₀ Nine o = Keeps buf x v₀ Nine o.answer o.buffer o.toggle o.moved o.next
@@ -180,11 +177,11 @@ in_keeping : (x : Request) (v₀ : Bool) (k : Kind) (s : Bool) (st : InStage) (w
 in_keeping x v₀ k false st w buf m o h = h
 in_keeping x v₀ k true st w buf m o h = by o.answer h
   where
-    by : (a : StepAnswer) → Keeps [] x v₀ (Held k st w [] m) a o.buffer o.toggle o.moved o.next → Keeps buf x v₀ (HeldBy k true st w buf m) a buf o.toggle o.moved o.next
-    by (Waiting again) h = h
-    by (Done count) h = h
-    by (Refused why) (inl e) = inl (refl, e.1, e.2)
-    by (Refused why) (inr e) = inr ((e.0.0, refl, e.0.2), e.1)
+    by : (a : Result Step Refusal) → Keeps [] x v₀ (Held k st w [] m) a o.buffer o.toggle o.moved o.next → Keeps buf x v₀ (HeldBy k true st w buf m) a buf o.toggle o.moved o.next
+    by (Ok (Waiting again)) h = h
+    by (Ok (Done count)) h = h
+    by (Err why) (inl e) = inl (refl, e.1, e.2)
+    by (Err why) (inr e) = inr ((e.0.0, refl, e.0.2), e.1)
 
 abbrev Never : List ℕ → Bool → Type 0
 Never b v = ⊥
@@ -193,11 +190,11 @@ out_keeping : (x : Request) (v₀ s : Bool) (buf : List ℕ) (o : Outcome) → K
 out_keeping x v₀ false buf o h = h
 out_keeping x v₀ true buf o h = by o.answer h
   where
-    by : (a : StepAnswer) → Keeps [] x v₀ Never a o.buffer o.toggle o.moved o.next → Keeps buf x v₀ Never a buf o.toggle o.moved o.next
-    by (Waiting again) h = h
-    by (Done count) h = h
-    by (Refused why) (inl e) = inl (refl, e.1, e.2)
-    by (Refused why) (inr e) = absurd e.0
+    by : (a : Result Step Refusal) → Keeps [] x v₀ Never a o.buffer o.toggle o.moved o.next → Keeps buf x v₀ Never a buf o.toggle o.moved o.next
+    by (Ok (Waiting again)) h = h
+    by (Ok (Done count)) h = h
+    by (Err why) (inl e) = inl (refl, e.1, e.2)
+    by (Err why) (inr e) = absurd e.0
 
 setup_keeps : (N : List ℕ → Bool → Type 0) (ph : DataPhase) (short : Bool) (x : Request) (n : ℕ) (buf m : List ℕ) → KeepsOf buf x (toggle_out x.kind false) N (setup_done ph short x n buf m)
 setup_keeps N phase_in true x n buf m = inl (refl, refl, refl)
@@ -258,15 +255,15 @@ acts_keeps x st s buf m = polled (eqb (bit_and s.intr 0x7F8) 0) (bit 18 s.status
     error false false false false false true = error_keeps CrcError x st w buf m refl
     error false false false false false false = goes_on_keeps x st w buf m
 
-    polled : (z c : Bool) → KeepsOf buf x (parity_toggle x st) (Nine x.kind st w buf m) (polls (cond z Pending (Ready (cond c Complete (first_of s.status errors)))) x st w buf m)
+    polled : (z c : Bool) → KeepsOf buf x (parity_toggle x st) (Nine x.kind st w buf m) (polls (cond z None (Some (cond c Complete (first_of s.status errors)))) x st w buf m)
     polled true c = (refl, refl)
     polled false true = complete_keeps x st w buf m
     polled false false = error (bit 31 s.status) (bit 29 s.status) (bit 26 s.status) (bit 27 s.status) (bit 25 s.status) (bit 24 s.status)
 
 -- ---- every step: refused with 15 or 16, or one that acts, with what the checks left
 
-pub by_busy : (P : Outcome → Type 0) (filling : Bool) (r : Run) (s : Sample) (buf m log : List ℕ) → P (refuses (Busy r) LentMemory m buf) → P (refuses (Busy r) State m buf)
-    → (may_step filling r ≡ true → length buf ≡ r.request.length → lent_fits m log ≡ true → P (acts r.request r.stage s buf m)) → P (step_of filling (Busy r) s buf m log)
+pub by_busy : (P : Outcome → Type 0) (filling : Bool) (r : Run) (s : Sample) (buf m log : List ℕ) → P (refuses (Some r) LentMemory m buf) → P (refuses (Some r) State m buf)
+    → (may_step filling r ≡ true → length buf ≡ r.request.length → lent_fits m log ≡ true → P (acts r.request r.stage s buf m)) → P (step_of filling (Some r) s buf m log)
 unfolding step_of
 by_busy P filling r s buf m log a b c = go (lent_fits m log) refl
   where
@@ -275,15 +272,15 @@ by_busy P filling r s buf m log a b c = go (lent_fits m log) refl
     may l true false e f = a
     may l true true e f = c e (eqb-true (length buf) r.request.length f) l
 
-    go : (l : Bool) → lent_fits m log ≡ l → P (step_lent l filling (Busy r) s buf m)
+    go : (l : Bool) → lent_fits m log ≡ l → P (step_lent l filling (Some r) s buf m)
     go false e = a
     go true e = may e (may_step filling r) (eqb (length buf) r.request.length) refl refl
 
-pub by_idle : (P : Outcome → Type 0) (filling : Bool) (s : Sample) (buf m log : List ℕ) → P (refuses Idle LentMemory m buf) → P (refuses Idle State m buf) → P (step_of filling Idle s buf m log)
+pub by_idle : (P : Outcome → Type 0) (filling : Bool) (s : Sample) (buf m log : List ℕ) → P (refuses None LentMemory m buf) → P (refuses None State m buf) → P (step_of filling None s buf m log)
 unfolding step_of
 by_idle P filling s buf m log a b = go (lent_fits m log)
   where
-    go : (l : Bool) → P (step_lent l filling Idle s buf m)
+    go : (l : Bool) → P (step_lent l filling None s buf m)
     go false = a
     go true = b
 
@@ -294,23 +291,23 @@ number_is : (k n : ℕ) → ◌≡◌ {A = Reply StepResult} (number k) (number 
 number_is k n e = cc
 
 -- A number other than 9.
-other_stays : (buf : List ℕ) (x : Request) (v₀ : Bool) (N : List ℕ → Bool → Type 0) (a : StepAnswer) (b : List ℕ) (t v : Bool) (z : Transfer) (n : ℕ) → Keeps buf x v₀ N a b t v z → step_reply a ≡ number n → (n ≡ 9 → ⊥) → (b ≡ buf) × (v ≡ v₀)
-other_stays buf x v₀ N (Waiting again) b t v z n k e f = clash (sym e)
-other_stays buf x v₀ N (Done count) b t v z n k e f = clash (sym e)
-other_stays buf x v₀ N (Refused why) b t v z n (inl k) e f = (k.0, k.1)
-other_stays buf x v₀ N (Refused why) b t v z n (inr k) e f = absurd (f (sym (number_is (number_of why) n e) ∙ eqb-true (number_of why) 9 k.1))
+other_stays : (buf : List ℕ) (x : Request) (v₀ : Bool) (N : List ℕ → Bool → Type 0) (a : Result Step Refusal) (b : List ℕ) (t v : Bool) (z : Option Run) (n : ℕ) → Keeps buf x v₀ N a b t v z → step_reply a ≡ number n → (n ≡ 9 → ⊥) → (b ≡ buf) × (v ≡ v₀)
+other_stays buf x v₀ N (Ok (Waiting again)) b t v z n k e f = clash (sym e)
+other_stays buf x v₀ N (Ok (Done count)) b t v z n k e f = clash (sym e)
+other_stays buf x v₀ N (Err why) b t v z n (inl k) e f = (k.0, k.1)
+other_stays buf x v₀ N (Err why) b t v z n (inr k) e f = absurd (f (sym (number_is (number_of why) n e) ∙ eqb-true (number_of why) 9 k.1))
 
-at_nine : (buf : List ℕ) (x : Request) (v₀ : Bool) (N : List ℕ → Bool → Type 0) (a : StepAnswer) (b : List ℕ) (t v : Bool) (z : Transfer) → Keeps buf x v₀ N a b t v z → step_reply a ≡ number 9 → N b v
-at_nine buf x v₀ N (Waiting again) b t v z k e = clash (sym e)
-at_nine buf x v₀ N (Done count) b t v z k e = clash (sym e)
-at_nine buf x v₀ N (Refused why) b t v z (inl k) e = absurd (eqb-false (number_of why) 9 k.2 (number_is (number_of why) 9 e))
-at_nine buf x v₀ N (Refused why) b t v z (inr k) e = k.0
+at_nine : (buf : List ℕ) (x : Request) (v₀ : Bool) (N : List ℕ → Bool → Type 0) (a : Result Step Refusal) (b : List ℕ) (t v : Bool) (z : Option Run) → Keeps buf x v₀ N a b t v z → step_reply a ≡ number 9 → N b v
+at_nine buf x v₀ N (Ok (Waiting again)) b t v z k e = clash (sym e)
+at_nine buf x v₀ N (Ok (Done count)) b t v z k e = clash (sym e)
+at_nine buf x v₀ N (Err why) b t v z (inl k) e = absurd (eqb-false (number_of why) 9 k.2 (number_is (number_of why) 9 e))
+at_nine buf x v₀ N (Err why) b t v z (inr k) e = k.0
 
-failed_keeps : (filling : Bool) (t : Transfer) (s : Sample) (buf m log : List ℕ) (n : ℕ)
+failed_keeps : (filling : Bool) (t : Option Run) (s : Sample) (buf m log : List ℕ) (n : ℕ)
     → step_reply (step_of filling t s buf m log).answer ≡ number n → (n ≡ 9 → ⊥) → (step_of filling t s buf m log).buffer ≡ buf
-failed_keeps filling Idle s buf m log n =
+failed_keeps filling None s buf m log n =
     by_idle (λ (o : Outcome). step_reply o.answer ≡ number n → (n ≡ 9 → ⊥) → o.buffer ≡ buf) filling s buf m log (λ e f. refl) (λ e f. refl)
-failed_keeps filling (Busy r) s buf m log n =
+failed_keeps filling (Some r) s buf m log n =
     by_busy (λ (o : Outcome). step_reply o.answer ≡ number n → (n ≡ 9 → ⊥) → o.buffer ≡ buf) filling r s buf m log (λ e f. refl) (λ e f. refl)
     (λ v l g. let o = acts r.request r.stage s buf m in
     λ e f. (other_stays buf r.request (parity_toggle r.request r.stage) (Nine r.request.kind r.stage s.buffers buf m) o.answer o.buffer o.toggle o.moved o.next n (acts_keeps r.request r.stage s buf m) e f).0)
@@ -361,13 +358,13 @@ acts_same : (x : Request) (st : Stage) (s : Sample) (buf m : List ℕ) → InIsS
 unfolding acts
 acts_same x st s buf m h = by (classify s.status s.intr)
   where
-    by : (p : Poll) → (polls p x st s.buffers buf m).buffer ≡ buf
-    by Pending = refl
-    by (Ready f) = stage_same f x st s.buffers buf m h
+    by : (p : Option Found) → (polls p x st s.buffers buf m).buffer ≡ buf
+    by None = refl
+    by (Some f) = stage_same f x st s.buffers buf m h
 
-sends_same : (t : Transfer) (s : Sample) (buf m log : List ℕ) → (step_of false t s buf m log).buffer ≡ buf
-sends_same Idle s buf m log = by_idle (λ (o : Outcome). o.buffer ≡ buf) false s buf m log refl refl
-sends_same (Busy r) s buf m log = by_busy (λ (o : Outcome). o.buffer ≡ buf) false r s buf m log refl refl
+sends_same : (t : Option Run) (s : Sample) (buf m log : List ℕ) → (step_of false t s buf m log).buffer ≡ buf
+sends_same None s buf m log = by_idle (λ (o : Outcome). o.buffer ≡ buf) false s buf m log refl refl
+sends_same (Some r) s buf m log = by_busy (λ (o : Outcome). o.buffer ≡ buf) false r s buf m log refl refl
     (λ v l g. acts_same r.request r.stage s buf m (served_status r.request.kind r.stage (may_parts false r v).0))
 
 -- ---- 9
@@ -383,9 +380,9 @@ nine_in k (out_stage st) w buf m b v e = absurd e
 acts_nine : (x : Request) (st : Stage) (s : Sample) (buf m : List ℕ) → step_reply (acts x st s buf m).answer ≡ number 9 → Nine x.kind st s.buffers buf m (acts x st s buf m).buffer (acts x st s buf m).moved
 acts_nine x st s buf m e = let o = acts x st s buf m in at_nine buf x (parity_toggle x st) (Nine x.kind st s.buffers buf m) o.answer o.buffer o.toggle o.moved o.next (acts_keeps x st s buf m) e
 
-only_in : (filling : Bool) (t : Transfer) (s : Sample) (buf m log : List ℕ) → step_reply (step_of filling t s buf m log).answer ≡ number 9 → receiving t ≡ true
-only_in filling Idle s buf m log = by_idle (λ (o : Outcome). step_reply o.answer ≡ number 9 → false ≡ true) filling s buf m log (not_nine 15 refl) (not_nine 16 refl)
-only_in filling (Busy r) s buf m log =
+only_in : (filling : Bool) (t : Option Run) (s : Sample) (buf m log : List ℕ) → step_reply (step_of filling t s buf m log).answer ≡ number 9 → receiving t ≡ true
+only_in filling None s buf m log = by_idle (λ (o : Outcome). step_reply o.answer ≡ number 9 → false ≡ true) filling s buf m log (not_nine 15 refl) (not_nine 16 refl)
+only_in filling (Some r) s buf m log =
     by_busy (λ (o : Outcome). step_reply o.answer ≡ number 9 → is_in_stage r.stage ≡ true) filling r s buf m log (not_nine 15 refl) (not_nine 16 refl)
     (λ v l g e. nine_in r.request.kind r.stage s.buffers buf m (acts r.request r.stage s buf m).buffer (acts r.request r.stage s buf m).moved (acts_nine r.request r.stage s buf m e))
 
@@ -526,14 +523,14 @@ module _ (a e p : ℕ) (k : TransferType) (b : Bool) (first : List ℕ) (few : l
   fit = omega arith
 
   data BulkAt (h : Running) (s : Tally) : Type 0 where
-    over : h.transfer ≡ Idle → BulkAt h s
-    under : (st : InStage) (ls : List (Packet ℕ)) → h.transfer ≡ Busy (record { request = bulk_x; stage = in_stage st }) → well_formed h.transfer ≡ true
+    over : h.transfer ≡ None → BulkAt h s
+    under : (st : InStage) (ls : List (Packet ℕ)) → h.transfer ≡ Some (record { request = bulk_x; stage = in_stage st }) → well_formed h.transfer ≡ true
         → Stands bulk_x many (length first) first few fit st h.buffer s ls → BulkAt h s
 
   on_step : (h : Running) (s : Tally) (y : StepCall) → BulkAt h s → BulkAt (after_step (step_in h y)) (tally_step many y s)
   on_step h s y (over q) = over (idle_next true h y q)
   on_step h s y (under st ls q v d) = by
-      (subst (λ (t : Transfer). Comes bulk_x many (length first) first few fit y s ls (step_in (record { transfer = t; buffer = h.buffer }) y)) (sym q)
+      (subst (λ (t : Option Run). Comes bulk_x many (length first) first few fit y s ls (step_in (record { transfer = t; buffer = h.buffer }) y)) (sym q)
       (comes bulk_x many (length first) first few fit y st h.buffer s ls refl (sym (ap well_formed q) ∙ v) refl d))
     where
       by : Comes bulk_x many (length first) first few fit y s ls (step_in h y) → BulkAt (after_step (step_in h y)) (tally_step many y s)
@@ -545,7 +542,7 @@ module _ (a e p : ℕ) (k : TransferType) (b : Bool) (first : List ℕ) (few : l
   on_steps [] h s q = rw (after_none true h, tally_none many s) q
   on_steps (y ∷ ys) h s q = rw (after_more true h y ys, tally_more many s y ys) (on_steps ys (after_step (step_in h y)) (tally_step many y s) (on_step h s y q))
 
-  so_far : (h : Running) (s : Tally) → BulkAt h s → (h.transfer ≡ Idle → ⊥) → Moved (length first) first s.retired (min (length first) (sum (map length s.retired))) h.buffer
+  so_far : (h : Running) (s : Tally) → BulkAt h s → (h.transfer ≡ None → ⊥) → Moved (length first) first s.retired (min (length first) (sum (map length s.retired))) h.buffer
   so_far h s (over q) f = absurd (f q)
   so_far h s (under st ls q v d) f =
       let z = kept_moved (length first) first few fit s.retired (in_received st) h.buffer d.flying.kept in
@@ -582,7 +579,7 @@ module _ (a e p : ℕ) (k : TransferType) (b : Bool) (first : List ℕ) (few : l
       let kept = d.flying.kept in
       let got = packets_at_nine y s.retired in
       let w = kept.stored.whole in
-      let same : step_in h y ≡ step_in (in_stage_at bulk_x st h.buffer) y = ap (λ (t : Transfer). step_in (record { transfer = t; buffer = h.buffer }) y) q in
+      let same : step_in h y ≡ step_in (in_stage_at bulk_x st h.buffer) y = ap (λ (t : Option Run). step_in (record { transfer = t; buffer = h.buffer }) y) q in
       let l = ltb 64 (read_buffer_control y.sample.buffers (slot_of (length s.retired))).LENGTH in
       let is : (step_in h y).buffer ≡ buffer_by l st y h.buffer =
       ap (λ (o : Outcome). o.buffer) same ∙ long_nine bulk_x st h.buffer y (omega (arith, w, few)) (ap (λ (o : Outcome). step_reply o.answer) (sym same) ∙ r)
@@ -590,7 +587,7 @@ module _ (a e p : ℕ) (k : TransferType) (b : Bool) (first : List ℕ) (few : l
       subst (λ (l : List ℕ). Moved (length first) first got (min (length first) (sum (map length got))) l) (sym is)
       (nine_by y s.retired st h.buffer kept.stored kept.parity l)
 
-module _ (t : Transfer) (a e p : ℕ) (k : TransferType) (b : Bool) (first m log : List ℕ) (q : (begin_bulk_in_of t a e p k b first m log).answer ≡ Begun) where
+module _ (t : Option Run) (a e p : ℕ) (k : TransferType) (b : Bool) (first m log : List ℕ) (q : (begin_bulk_in_of t a e p k b first m log).answer ≡ Ok tt) where
   abbrev opened : Running
   opened = record { transfer = (begin_bulk_in_of t a e p k b first m log).next; buffer = first }
 
@@ -619,13 +616,13 @@ module _ (t : Transfer) (a e p : ℕ) (k : TransferType) (b : Bool) (first m log
             (starts x many_slots (length first) first good.few room k (target_of x) refl refl sizes.0 sizes.1 refl);
       }
 
-  bulk_so_far : (ys : List StepCall) → ((after_steps true opened ys).transfer ≡ Idle → ⊥)
+  bulk_so_far : (ys : List StepCall) → ((after_steps true opened ys).transfer ≡ None → ⊥)
       → let got = received many_slots ys in Moved (length first) first got (min (length first) (sum (map length got))) (after_steps true opened ys).buffer
   bulk_so_far ys f =
       let g = begins_fine in
       so_far a e p k b first g.few (after_steps true opened ys) (tallied many_slots (tally_start many_slots) ys) (on_steps a e p k b first g.few ys opened (tally_start many_slots) g.at) f
 
-  bulk_failed_lem : (ys : List StepCall) (y : StepCall) (n : ℕ) → ((after_steps true opened ys).transfer ≡ Idle → ⊥) → step_reply (step_in (after_steps true opened ys) y).answer ≡ number n → 1 ≤ n → n ≤ 7
+  bulk_failed_lem : (ys : List StepCall) (y : StepCall) (n : ℕ) → ((after_steps true opened ys).transfer ≡ None → ⊥) → step_reply (step_in (after_steps true opened ys) y).answer ≡ number n → 1 ≤ n → n ≤ 7
       → let got = received many_slots ys in Moved (length first) first got (min (length first) (sum (map length got))) (step_in (after_steps true opened ys) y).buffer
   bulk_failed_lem ys y n f r low high =
       let h = after_steps true opened ys in
@@ -639,11 +636,11 @@ module _ (t : Transfer) (a e p : ℕ) (k : TransferType) (b : Bool) (first m log
       let g = begins_fine in
       nine_moved a e p k b first g.few (after_steps true opened ys) (tallied many_slots (tally_start many_slots) ys) y (on_steps a e p k b first g.few ys opened (tally_start many_slots) g.at) r
 
-control_failed_lem : (t : Transfer) (a : ℕ) (x : TransferExtras) (p : ℕ) (s : SetupPacket) (first m log : List ℕ) (ys : List StepCall) (y : StepCall) (n : ℕ) → s.wLength ≤ 0xFFFF
-    → (begin_control_of t a x p s phase_in first m log).answer ≡ Begun
+control_failed_lem : (t : Option Run) (a : ℕ) (x : TransferExtras) (p : ℕ) (s : SetupPacket) (first m log : List ℕ) (ys : List StepCall) (y : StepCall) (n : ℕ) → s.wLength ≤ 0xFFFF
+    → (begin_control_of t a x p s phase_in first m log).answer ≡ Ok tt
     → let h = after_steps true (record { transfer = (begin_control_of t a x p s phase_in first m log).next; buffer = first }) ys in
     let got = control_received (length (in_cut_of FixedSize p true s.wLength)) ys in
-    (h.transfer ≡ Idle → ⊥) → step_reply (step_in h y).answer ≡ number n → 1 ≤ n → n ≤ 7 → Moved s.wLength first got (min s.wLength (sum (map length got))) (step_in h y).buffer
+    (h.transfer ≡ None → ⊥) → step_reply (step_in h y).answer ≡ number n → 1 ≤ n → n ≤ 7 → Moved s.wLength first got (min s.wLength (sum (map length got))) (step_in h y).buffer
 control_failed_lem t a x p s first m log ys y n few q f r low high =
     let h = after_steps true (record { transfer = (begin_control_of t a x p s phase_in first m log).next; buffer = first }) ys in
     let got = control_received (length (in_cut_of FixedSize p true s.wLength)) ys in

@@ -1,4 +1,5 @@
 -- What open, close and poll make of the pipes. Assumes nothing.
+use Rattle.std.specs.Prelude.{None, Ok, Option, Some}
 use mathlib.Core.Path.{◌≡◌, refl, ap, sym, ◌∙◌}
 use mathlib.Core.Bool.{Bool, true, false, cond, not, ◌&&◌, or-false}
 use mathlib.Core.List.{List}
@@ -9,11 +10,7 @@ use lib.ListN.{length, set, get_or}
 use lib.Seq.{get_or-set_same, get_or-set_other}
 use Rattle.pool.specs.declared.bitset.BitSet.{BitSet}
 use Rattle.pool.specs.declared.async_pool.PoolIndex.{PoolIndex}
-use Rattle.pool.specs.declared.async_pool.OptionIndex.{OptionIndex}
-use Rattle.pool.specs.declared.async_pool.OptionIndex.TheVariants.{Some as SomeIndex, None as NoIndex}
 use Rattle.pool.specs.declared.pipe.PipeNumber.{PipeNumber}
-use Rattle.pool.specs.declared.pipe.OptionPipe.{OptionPipe}
-use Rattle.pool.specs.declared.pipe.OptionPipe.TheVariants.{Some as SomePipe, None as NoPipe}
 use Rattle.pool.specs.Set.{has, insert, remove}
 use Rattle.pool.specs.Pool.{alloc_of, free_of}
 use Rattle.pool.specs.Pipe.{offset, pipes, pipe_of, Counted}
@@ -25,9 +22,6 @@ use Rattle.transfers.specs.declared.driver.Driver.{Driver}
 use Rattle.transfers.specs.declared.driver.Pipes.{Pipes}
 use Rattle.transfers.specs.declared.driver.Pipe.{Pipe}
 use Rattle.transfers.specs.declared.pipes.PipeSample.{PipeSample}
-use Rattle.transfers.specs.declared.pipes.OpenAnswer.TheVariants.{Pipe as OpenPipe}
-use Rattle.transfers.specs.declared.pipes.CloseAnswer.TheVariants.{Closed}
-use Rattle.transfers.specs.declared.pipes.PollAnswer.TheVariants.{Packet, Waiting}
 use Rattle.transfers.specs.Memory.{log_fits, lent_fits}
 use Rattle.transfers.specs.Registers.{bit}
 use Rattle.transfers.specs.State.{address_good, endpoint_good, size_good}
@@ -35,13 +29,14 @@ use Rattle.transfers.specs.Pipes.{no_pipe, pool_of, open_number, open_index, ope
 use Rattle.transfers.specs.Isolation.{is_some, is_open, held_of, Whole}
 use Rattle.transfers.proofs.OpenPipes.{open_some}
 use Rattle.rules.specs.PipeStates.{AfterOpen, AfterClose, AfterPacket, PipeStates}
+use Rattle.transfers.specs.declared.pipes.Poll.TheVariants.{Packet, Waiting}
 
 -- A pipe is open where the pool has handed its index out.
 open_is : (p : BitSet) (n : PipeNumber) (at : PoolIndex) → Counted at n → is_open p n ≡ has p.0 at.0
 unfolding index_open
 open_is p n at c = rw (index_of_lem at n c) (by (has p.0 at.0))
   where
-    by : (b : Bool) → is_some (cond b (SomeIndex at) NoIndex) ≡ b
+    by : (b : Bool) → is_some (cond b (Some at) None) ≡ b
     by true = refl
     by false = refl
 
@@ -88,27 +83,27 @@ opens_at ps size at n w c out =
     }
 
 opens : (d : Driver) (address : ℕ) (extras : TransferExtras) (endpoint size interval : ℕ) (log : List ℕ) (n : PipeNumber) → Whole d
-    → (opening d address extras endpoint size interval log).answer ≡ OpenPipe n
+    → (opening d address extras endpoint size interval log).answer ≡ Ok n
     → AfterOpen n size d.pipes (opening d address extras endpoint size interval log).next.pipes
 unfolding opening_pipe open_free
 opens d address extras endpoint size interval log n w = go (log_fits log) (address_good address) (endpoint_good endpoint) (size_good size)
   where
-    number : (at : PoolIndex) → (alloc_of (pool_of d.pipes.opened)).index ≡ SomeIndex at → (o : OptionPipe) → pipe_of at ≡ o
-        → (open_number o at (alloc_of (pool_of d.pipes.opened)).pool.allocated d.pipes address extras endpoint size interval).answer ≡ OpenPipe n
+    number : (at : PoolIndex) → (alloc_of (pool_of d.pipes.opened)).index ≡ Some at → (o : Option PipeNumber) → pipe_of at ≡ o
+        → (open_number o at (alloc_of (pool_of d.pipes.opened)).pool.allocated d.pipes address extras endpoint size interval).answer ≡ Ok n
         → AfterOpen n size d.pipes (open_number o at (alloc_of (pool_of d.pipes.opened)).pool.allocated d.pipes address extras endpoint size interval).next
-    number at e NoPipe f s = absurd (let z : ◌≡◌ {A = ℕ} 0 1 = cc in omega arith)
-    number at e (SomePipe m) f s =
+    number at e None f s = absurd (let z : ◌≡◌ {A = ℕ} 0 1 = cc in omega arith)
+    number at e (Some m) f s =
         let same : m ≡ n = cc in
         let a = alloc_some (pool_of d.pipes.opened) at e in
-        rw a.0 (opens_at d.pipes size at n w (pipe_counted at n (f ∙ ap (λ k. SomePipe k) same)) a.2)
+        rw a.0 (opens_at d.pipes size at n w (pipe_counted at n (f ∙ ap (λ k. Some k) same)) a.2)
 
-    index : (o : OptionIndex) → (alloc_of (pool_of d.pipes.opened)).index ≡ o
-        → (open_index o (alloc_of (pool_of d.pipes.opened)).pool.allocated d.pipes address extras endpoint size interval).answer ≡ OpenPipe n
+    index : (o : Option PoolIndex) → (alloc_of (pool_of d.pipes.opened)).index ≡ o
+        → (open_index o (alloc_of (pool_of d.pipes.opened)).pool.allocated d.pipes address extras endpoint size interval).answer ≡ Ok n
         → AfterOpen n size d.pipes (open_index o (alloc_of (pool_of d.pipes.opened)).pool.allocated d.pipes address extras endpoint size interval).next
-    index NoIndex e s = absurd (let z : ◌≡◌ {A = ℕ} 0 1 = cc in omega arith)
-    index (SomeIndex at) e s = number at e (pipe_of at) refl s
+    index None e s = absurd (let z : ◌≡◌ {A = ℕ} 0 1 = cc in omega arith)
+    index (Some at) e s = number at e (pipe_of at) refl s
 
-    go : (l a e f : Bool) → (open_if l a e f d.pipes address extras endpoint size interval).answer ≡ OpenPipe n
+    go : (l a e f : Bool) → (open_if l a e f d.pipes address extras endpoint size interval).answer ≡ Ok n
         → AfterOpen n size d.pipes (open_if l a e f d.pipes address extras endpoint size interval).next
     go false a e f s = absurd (let z : ◌≡◌ {A = ℕ} 0 1 = cc in omega arith)
     go true false e f s = absurd (let z : ◌≡◌ {A = ℕ} 0 1 = cc in omega arith)
@@ -147,13 +142,13 @@ closes_at ps at n (c, e) =
           };
     }
 
-closes : (d : Driver) (n : PipeNumber) → (closing d n).answer ≡ Closed → AfterClose n d.pipes (closing d n).next.pipes
+closes : (d : Driver) (n : PipeNumber) → (closing d n).answer ≡ Ok tt → AfterClose n d.pipes (closing d n).next.pipes
 unfolding closing_pipe free_of
 closes d n = go (index_open d.pipes.opened n) refl
   where
-    go : (o : OptionIndex) → index_open d.pipes.opened n ≡ o → (close_index o d.pipes).answer ≡ Closed → AfterClose n d.pipes (close_index o d.pipes).next
-    go NoIndex f e = absurd (let z : ◌≡◌ {A = ℕ} 0 1 = cc in omega arith)
-    go (SomeIndex at) f e = closes_at d.pipes at n (open_some d.pipes.opened n at f)
+    go : (o : Option PoolIndex) → index_open d.pipes.opened n ≡ o → (close_index o d.pipes).answer ≡ Ok tt → AfterClose n d.pipes (close_index o d.pipes).next
+    go None f e = absurd (let z : ◌≡◌ {A = ℕ} 0 1 = cc in omega arith)
+    go (Some at) f e = closes_at d.pipes at n (open_some d.pipes.opened n at f)
 
 -- ---- poll
 
@@ -175,26 +170,26 @@ flips_at ps at n s pm w (c, e) =
     }
 
 module _ (d : Driver) (n : PipeNumber) (s : PipeSample) (pm log : List ℕ) where
-  flips : Whole d → (polling d n s pm log).answer ≡ Packet → AfterPacket n d.pipes (polling d n s pm log).next.pipes
+  flips : Whole d → (polling d n s pm log).answer ≡ Ok Packet → AfterPacket n d.pipes (polling d n s pm log).next.pipes
   unfolding polling_pipe
   flips w = go (lent_fits pm log) (index_open d.pipes.opened n) refl (bit 15 s.buffer)
     where
-      go : (b : Bool) (o : OptionIndex) → index_open d.pipes.opened n ≡ o → (f : Bool) → (poll_if b o f d.pipes n s pm).answer ≡ Packet
+      go : (b : Bool) (o : Option PoolIndex) → index_open d.pipes.opened n ≡ o → (f : Bool) → (poll_if b o f d.pipes n s pm).answer ≡ Ok Packet
           → AfterPacket n d.pipes (poll_if b o f d.pipes n s pm).next
       go false o i f e = absurd (let z : ◌≡◌ {A = ℕ} 0 1 = cc in omega arith)
-      go true NoIndex i f e = absurd (let z : ◌≡◌ {A = ℕ} 0 1 = cc in omega arith)
-      go true (SomeIndex at) i false e = absurd (let z : ◌≡◌ {A = ℕ} 0 1 = cc in omega arith)
-      go true (SomeIndex at) i true e = flips_at d.pipes at n s pm w (open_some d.pipes.opened n at i)
+      go true None i f e = absurd (let z : ◌≡◌ {A = ℕ} 0 1 = cc in omega arith)
+      go true (Some at) i false e = absurd (let z : ◌≡◌ {A = ℕ} 0 1 = cc in omega arith)
+      go true (Some at) i true e = flips_at d.pipes at n s pm w (open_some d.pipes.opened n at i)
 
-  waits_same : (polling d n s pm log).answer ≡ Waiting → (polling d n s pm log).next.pipes ≡ d.pipes
+  waits_same : (polling d n s pm log).answer ≡ Ok Waiting → (polling d n s pm log).next.pipes ≡ d.pipes
   unfolding polling_pipe poll_full
   waits_same = go (lent_fits pm log) (index_open d.pipes.opened n) (bit 15 s.buffer)
     where
-      go : (b : Bool) (o : OptionIndex) (f : Bool) → (poll_if b o f d.pipes n s pm).answer ≡ Waiting → (poll_if b o f d.pipes n s pm).next ≡ d.pipes
+      go : (b : Bool) (o : Option PoolIndex) (f : Bool) → (poll_if b o f d.pipes n s pm).answer ≡ Ok Waiting → (poll_if b o f d.pipes n s pm).next ≡ d.pipes
       go false o f e = refl
-      go true NoIndex f e = refl
-      go true (SomeIndex at) false e = refl
-      go true (SomeIndex at) true e = absurd (let z : ◌≡◌ {A = ℕ} 0 1 = cc in omega arith)
+      go true None f e = refl
+      go true (Some at) false e = refl
+      go true (Some at) true e = absurd (let z : ◌≡◌ {A = ℕ} 0 1 = cc in omega arith)
 
 pub pipe_states : PipeStates
 pipe_states = record {

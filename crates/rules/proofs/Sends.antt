@@ -1,4 +1,5 @@
 -- Every list of steps from a bulk OUT begin to its done hands the caller what the samples tell. Assumes nothing.
+use Rattle.std.specs.Prelude.{None, Ok, Option, Some}
 use mathlib.Core.Path.{◌≡◌, refl, sym, ap, ap₂, ◌∙◌, subst}
 use mathlib.Core.Bool.{Bool, true, false, not, cond, ◌&&◌}
 use mathlib.Core.List.{List, [], ◌∷◌, ◌++◌}
@@ -11,24 +12,15 @@ use borrow.Author.Tests.{ltb-true, ltb-false, lt-ltb, le-ltb}
 use Rattle.pool.proofs.Cases.{by_cases}
 use Rattle.cutting.specs.declared.transfer_type.TransferType.{TransferType}
 use Rattle.cutting.specs.declared.packetiser.Arm.{Arm}
-use Rattle.cutting.specs.declared.packetiser.OptionArm.{OptionArm}
-use Rattle.cutting.specs.declared.packetiser.OptionArm.TheVariants.{Some, None}
-use Rattle.cutting.specs.declared.packetiser.Next.{Next}
-use Rattle.cutting.specs.declared.packetiser.Next.TheVariants.{Packet as sends, End}
 use Rattle.cutting.specs.declared.packetiser.OutCounters.{OutCounters}
-use Rattle.cutting.specs.declared.packetiser.OutNext.{OutNext}
+use Rattle.cutting.specs.declared.packetiser.Next.{Next}
 use Rattle.cutting.specs.Cut.{Packet, out_cut}
 use Rattle.cutting.specs.Counters.{next_of, pid_of, out_start, out_gives, out_next}
 use Rattle.cutting.specs.Left.{OutLeft, stop, go}
 use Rattle.cutting.proofs.Cutting.{out_cut_lem}
 use Rattle.transfers.specs.declared.wire.Direction.TheVariants.{Out}
-use Rattle.transfers.specs.declared.answers.BeginAnswer.TheVariants.{Begun}
-use Rattle.transfers.specs.declared.answers.StepAnswer.TheVariants.{Done}
-use Rattle.transfers.specs.declared.sample.Poll.{Poll}
 use Rattle.transfers.specs.declared.sample.Found.{Found}
 use Rattle.transfers.specs.declared.sample.Found.TheVariants.{Complete, Failed, Neither}
-use Rattle.transfers.specs.declared.driver.Transfer.{Transfer}
-use Rattle.transfers.specs.declared.driver.Transfer.TheVariants.{Idle, Busy}
 use Rattle.transfers.specs.declared.driver.Run.{Run}
 use Rattle.transfers.specs.declared.driver.Request.{Request}
 use Rattle.transfers.specs.declared.driver.Stage.TheVariants.{Out as out_stage}
@@ -55,23 +47,24 @@ use Rattle.rules.proofs.Armed.{same_available}
 use Rattle.rules.proofs.InStage.{not_done, waiting_not, refused_not, by_poll}
 use Rattle.rules.proofs.Steps.{absurd_done, done_is, idle_next, idle_not, accepted, none_idle}
 use Rattle.rules.proofs.Arms.{no_arm, two_armed}
+use Rattle.transfers.specs.declared.answers.Step.TheVariants.{Done}
 
 -- ---- the counters after a packet
 
-record After (c : OutCounters) (v : OutNext) : Type 0 where
+record After (c : OutCounters) (v : Next OutCounters) : Type 0 where
   size : v.rest.size ≡ c.size
   pid : v.rest.pid ≡ c.pid
   none : v.arm ≡ None → v.rest ≡ c
   some : (a : Arm) → v.arm ≡ Some a → v.rest.slot ≡ not c.slot
 
-after_next : (x : Next) (c : OutCounters) → After c (out_gives x c)
-after_next End c = record { size = refl; pid = refl; none = λ e. refl; some = λ a e. no_arm a e }
-after_next (sends n last) c =
+after_next : (x : Option (ℕ × Bool)) (c : OutCounters) → After c (out_gives x c)
+after_next None c = record { size = refl; pid = refl; none = λ e. refl; some = λ a e. no_arm a e }
+after_next (Some (n, last)) c =
     record { size = refl; pid = refl; none = λ e. no_arm (record { slot = c.slot; pid = pid_of c.pid c.slot; last = last; length = n }) (sym e); some = λ a e. refl }
 
 next_after : (c : OutCounters) → After c (out_next c)
 unfolding out_next
-next_after c = after_next (cond (ltb (0xFFFF - c.offset) c.remain) End (next_of c.remain c.size c.zlp)) c
+next_after c = after_next (cond (ltb (0xFFFF - c.offset) c.remain) None (next_of c.remain c.size c.zlp)) c
 
 -- ---- what one arming does
 
@@ -85,13 +78,13 @@ arm_end w c k buf m e = by (may_arm w k c.slot)
   where
     by : (v : Bool) → out_arm_if v c k buf m ≡ out_kept c k m
     by false = refl
-    by true = ap (λ (x : OptionArm). out_armed x (out_next c).rest k c.offset buf m) e ∙ ap (λ (d : OutCounters). out_kept d k m) ((next_after c).none e)
+    by true = ap (λ (x : Option Arm). out_armed x (out_next c).rest k c.offset buf m) e ∙ ap (λ (d : OutCounters). out_kept d k m) ((next_after c).none e)
 
 arm_go : (w : ℕ) (c : OutCounters) (k : ℕ) (buf m : List ℕ) (a : Arm) → may_arm w k c.slot ≡ true → (out_next c).arm ≡ Some a
     → ((out_arm w c k buf m).packets ≡ (out_next c).rest) × ((out_arm w c k buf m).inflight ≡ k + 1)
 unfolding out_arm
 arm_go w c k buf m a q e =
-    let f = ap (λ (v : Bool). out_arm_if v c k buf m) q ∙ ap (λ (x : OptionArm). out_armed x (out_next c).rest k c.offset buf m) e in
+    let f = ap (λ (v : Bool). out_arm_if v c k buf m) q ∙ ap (λ (x : Option Arm). out_armed x (out_next c).rest k c.offset buf m) e in
     (ap (λ (g : OutArming). g.packets) f, ap (λ (g : OutArming). g.inflight) f)
 
 pub same_full : (w : ℕ) (s : Bool) → full w s ≡ (read_buffer_control w s).FULL
@@ -223,7 +216,7 @@ module _ (packets : ℕ) (b : Bool) (p : ℕ) (first : List ℕ) where
 -- ---- a step of the transfer
 
 -- One that sends is served by `step_out`.
-sends_may : (r : Run) → fills r.request.kind ≡ false → well_formed (Busy r) ≡ true → may_step false r ≡ true
+sends_may : (r : Run) → fills r.request.kind ≡ false → well_formed (Some r) ≡ true → may_step false r ≡ true
 unfolding served
 sends_may r f h = by_cases (may_step true r)
     (λ (e : may_step true r ≡ true).
@@ -238,8 +231,8 @@ module _ (a e p : ℕ) (k : TransferType) (b : Bool) (first : List ℕ) where
   abbrev many : ℕ
   many = length (out_cut k p b first)
 
-  abbrev busy : OutStage → Transfer
-  busy st = Busy (record { request = bulk_x; stage = out_stage st })
+  abbrev busy : OutStage → Option Run
+  busy st = Some (record { request = bulk_x; stage = out_stage st })
 
   pub record At (st : OutStage) (s : SentTally) : Type 0 where
     pub data_stage : st.status ≡ false
@@ -247,9 +240,9 @@ module _ (a e p : ℕ) (k : TransferType) (b : Bool) (first : List ℕ) where
 
   -- What a step comes to: whether it ends the stage, and the tally after it.
   pub data Comes (ends : Bool) (s : SentTally) (o : Outcome) : Type 0 where
-    fails : ends ≡ false → o.next ≡ Idle → not_done o.answer → Comes ends s o
+    fails : ends ≡ false → o.next ≡ None → not_done o.answer → Comes ends s o
     goes : ends ≡ false → (st : OutStage) → o.next ≡ busy st → At st s → not_done o.answer → Comes ends s o
-    finishes : ends ≡ true → o.next ≡ Idle → o.answer ≡ Done (length first) → o.toggle ≡ flip_times b s.retired → Comes ends s o
+    finishes : ends ≡ true → o.next ≡ None → o.answer ≡ Ok (Done (length first)) → o.toggle ≡ flip_times b s.retired → Comes ends s o
 
   after_comes : (ends : Bool) (s : SentTally) (ws : List Write) (o : Outcome) → Comes ends s o → Comes ends s (after ws o)
   after_comes ends s ws o (fails u q f) = fails u q f
@@ -295,7 +288,7 @@ module _ (a e p : ℕ) (k : TransferType) (b : Bool) (first : List ℕ) where
     pub polled_comes : Comes (ends_stage y.sample) (tells true) (polls (classify y.sample.status y.sample.intr) bulk_x (out_stage st) y.sample.buffers z.bytes y.memory)
     polled_comes =
         let w = y.sample.buffers in
-        by_poll y.sample (λ (u : Poll) (q c : Bool). Comes (not q && c) (sent_by true q c many w s) (polls u bulk_x (out_stage st) w z.bytes y.memory))
+        by_poll y.sample (λ (u : Option Found) (q c : Bool). Comes (not q && c) (sent_by true q c many w s) (polls u bulk_x (out_stage st) w z.bytes y.memory))
         (λ c. goes refl st refl h (waiting_not false))
         (ready st s h w z.bytes y.memory Complete true (sent_two w s) (completed st s h w z.bytes y.memory))
         (λ x. ready st s h w z.bytes y.memory (Failed x) false (send_two many w (sent_two w s)) (fails refl refl (refused_not _)))
@@ -306,7 +299,7 @@ module _ (a e p : ℕ) (k : TransferType) (b : Bool) (first : List ℕ) where
     if_comes false = goes refl st refl h (refused_not _)
     if_comes true = polled_comes
 
-    lent_comes : may_step false run ≡ true → (u : Bool) → Comes ((u && eqb (length z.bytes) (length first)) && ends_stage y.sample) (tells (u && eqb (length z.bytes) (length first))) (step_lent u false (Busy run) y.sample z.bytes y.memory)
+    lent_comes : may_step false run ≡ true → (u : Bool) → Comes ((u && eqb (length z.bytes) (length first)) && ends_stage y.sample) (tells (u && eqb (length z.bytes) (length first))) (step_lent u false (Some run) y.sample z.bytes y.memory)
     lent_comes may false = goes refl st refl h (refused_not _)
     lent_comes may true =
         let v = eqb (length z.bytes) (length first) in
@@ -318,17 +311,17 @@ module _ (a e p : ℕ) (k : TransferType) (b : Bool) (first : List ℕ) where
 
   -- ---- lists of steps
 
-  data SendsAt (t : Transfer) (s : SentTally) : Type 0 where
-    over : t ≡ Idle → SendsAt t s
+  data SendsAt (t : Option Run) (s : SentTally) : Type 0 where
+    over : t ≡ None → SendsAt t s
     under : (st : OutStage) → t ≡ busy st → well_formed t ≡ true → At st s → SendsAt t s
 
-  any_comes : (t : Transfer) (s : SentTally) (z : SendCall) (st : OutStage) → t ≡ busy st → well_formed t ≡ true → At st s
+  any_comes : (t : Option Run) (s : SentTally) (z : SendCall) (st : OutStage) → t ≡ busy st → well_formed t ≡ true → At st s
       → Comes (acting (length first) z && ends_stage z.call.sample) (sent_step many (length first) z s) (step_out t z)
   any_comes t s z st q w h =
-      subst (λ (u : Transfer). Comes (acting (length first) z && ends_stage z.call.sample) (sent_step many (length first) z s) (step_out u z)) (sym q)
+      subst (λ (u : Option Run). Comes (acting (length first) z && ends_stage z.call.sample) (sent_step many (length first) z s) (step_out u z)) (sym q)
       (step_comes st s h z (sends_may (record { request = bulk_x; stage = out_stage st }) refl (sym (ap well_formed q) ∙ w)))
 
-  on_step : (t : Transfer) (s : SentTally) (z : SendCall) → SendsAt t s → SendsAt (step_out t z).next (sent_step many (length first) z s)
+  on_step : (t : Option Run) (s : SentTally) (z : SendCall) → SendsAt t s → SendsAt (step_out t z).next (sent_step many (length first) z s)
   on_step t s z (over q) = over (idle_next false (record { transfer = t; buffer = z.bytes }) z.call q)
   on_step t s z (under st q w h) = by (any_comes t s z st q w h)
     where
@@ -337,27 +330,27 @@ module _ (a e p : ℕ) (k : TransferType) (b : Bool) (first : List ℕ) where
       by (goes u st' v h' f) = under st' v (step_well false t z.call.sample z.bytes z.call.memory z.call.log w) h'
       by (finishes u v f g) = over v
 
-  on_steps : (zs : List SendCall) (t : Transfer) (s : SentTally) → SendsAt t s → SendsAt (after_sends t zs) (sent_steps many (length first) s zs)
+  on_steps : (zs : List SendCall) (t : Option Run) (s : SentTally) → SendsAt t s → SendsAt (after_sends t zs) (sent_steps many (length first) s zs)
   unfolding after_sends sent_steps
   on_steps [] t s q = q
   on_steps (z ∷ zs) t s q = on_steps zs (step_out t z).next (sent_step many (length first) z s) (on_step t s z q)
 
-  at_done : (t : Transfer) (s : SentTally) (z : SendCall) (count : ℕ) → SendsAt t s → (step_out t z).answer ≡ Done count
-      → (count ≡ length first) × ((step_out t z).toggle ≡ flip_times b (sent_step many (length first) z s).retired) × ((step_out t z).next ≡ Idle)
+  at_done : (t : Option Run) (s : SentTally) (z : SendCall) (count : ℕ) → SendsAt t s → (step_out t z).answer ≡ Ok (Done count)
+      → (count ≡ length first) × ((step_out t z).toggle ≡ flip_times b (sent_step many (length first) z s).retired) × ((step_out t z).next ≡ None)
   at_done t s z count (over q) d = absurd_done (step_out t z).answer count (idle_not false (record { transfer = t; buffer = z.bytes }) z.call q) d
   at_done t s z count (under st q w h) d = by (any_comes t s z st q w h)
     where
       by : Comes (acting (length first) z && ends_stage z.call.sample) (sent_step many (length first) z s) (step_out t z)
-          → (count ≡ length first) × ((step_out t z).toggle ≡ flip_times b (sent_step many (length first) z s).retired) × ((step_out t z).next ≡ Idle)
+          → (count ≡ length first) × ((step_out t z).toggle ≡ flip_times b (sent_step many (length first) z s).retired) × ((step_out t z).next ≡ None)
       by (fails u v f) = absurd_done (step_out t z).answer count f d
       by (goes u st' v h' f) = absurd_done (step_out t z).answer count f d
       by (finishes u v f g) = (done_is count (length first) (sym d ∙ f), g, v)
 
-  at_complete : (t : Transfer) (s : SentTally) (z : SendCall) → SendsAt t s → (t ≡ Idle → ⊥) → (acting (length first) z && ends_stage z.call.sample) ≡ true → (step_out t z).answer ≡ Done (length first)
+  at_complete : (t : Option Run) (s : SentTally) (z : SendCall) → SendsAt t s → (t ≡ None → ⊥) → (acting (length first) z && ends_stage z.call.sample) ≡ true → (step_out t z).answer ≡ Ok (Done (length first))
   at_complete t s z (over q) n c = absurd (n q)
   at_complete t s z (under st q w h) n c = by (any_comes t s z st q w h)
     where
-      by : Comes (acting (length first) z && ends_stage z.call.sample) (sent_step many (length first) z s) (step_out t z) → (step_out t z).answer ≡ Done (length first)
+      by : Comes (acting (length first) z && ends_stage z.call.sample) (sent_step many (length first) z s) (step_out t z) → (step_out t z).answer ≡ Ok (Done (length first))
       by (fails u v f) = no (sym c ∙ u)
       by (goes u st' v h' f) = no (sym c ∙ u)
       by (finishes u v f g) = f
@@ -369,7 +362,7 @@ sent_end packets n (x ∷ zs) z s = sent_end packets n zs z (sent_step packets n
 
 -- ---- a begin that is accepted
 
-module _ (t : Transfer) (a e p : ℕ) (k : TransferType) (b : Bool) (first m log : List ℕ) (q : (begin_bulk_out_of t a e p k b first m log).answer ≡ Begun) where
+module _ (t : Option Run) (a e p : ℕ) (k : TransferType) (b : Bool) (first m log : List ℕ) (q : (begin_bulk_out_of t a e p k b first m log).answer ≡ Ok tt) where
   abbrev start : SentTally
   start = record { armed = min (length (out_cut k p b first)) 2; retired = 0 }
 
@@ -407,7 +400,7 @@ module _ (t : Transfer) (a e p : ℕ) (k : TransferType) (b : Bool) (first m log
   sends_at zs = on_steps a e p k b first zs (begin_bulk_out_of t a e p k b first m log).next start begins
 
   bulk_done : (zs : List SendCall) (z : SendCall) (count : ℕ) → let o = step_out (after_sends (begin_bulk_out_of t a e p k b first m log).next zs) z in
-      o.answer ≡ Done count → (count ≡ length first) × (o.toggle ≡ flip_times b (sent (length (out_cut k p b first)) (length first) (zs ++ (z ∷ [])))) × (o.next ≡ Idle)
+      o.answer ≡ Ok (Done count) → (count ≡ length first) × (o.toggle ≡ flip_times b (sent (length (out_cut k p b first)) (length first) (zs ++ (z ∷ [])))) × (o.next ≡ None)
   bulk_done zs z count d =
       let packets = length (out_cut k p b first) in
       let u = after_sends (begin_bulk_out_of t a e p k b first m log).next zs in
@@ -415,7 +408,7 @@ module _ (t : Transfer) (a e p : ℕ) (k : TransferType) (b : Bool) (first m log
       (f.0, f.1 ∙ ap (λ (s : SentTally). flip_times b s.retired) (sym (sent_end packets (length first) zs z start)), f.2)
 
   bulk_completed : (zs : List SendCall) (z : SendCall) → let u = after_sends (begin_bulk_out_of t a e p k b first m log).next zs in
-      (u ≡ Idle → ⊥) → (acting (length first) z && ends_stage z.call.sample) ≡ true → (step_out u z).answer ≡ Done (length first)
+      (u ≡ None → ⊥) → (acting (length first) z && ends_stage z.call.sample) ≡ true → (step_out u z).answer ≡ Ok (Done (length first))
   bulk_completed zs z n c =
       at_complete a e p k b first (after_sends (begin_bulk_out_of t a e p k b first m log).next zs) (sent_steps (length (out_cut k p b first)) (length first) start zs) z (sends_at zs) n c
 

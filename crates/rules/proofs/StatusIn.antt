@@ -1,4 +1,5 @@
 -- A control Out or None arms one slot IN, its status. Assumes nothing.
+use Rattle.std.specs.Prelude.{None, Ok, Option, Some}
 use mathlib.Core.Path.{◌≡◌, refl, sym, ap, ap₂, ◌∙◌, subst}
 use mathlib.Core.Bool.{Bool, true, false, cond}
 use mathlib.Core.List.{List, [], ◌∷◌, ◌++◌, append_assoc, append-nil}
@@ -7,8 +8,6 @@ use lib.Dec.{eqb, ltb}
 use lib.ListN.{length}
 use Rattle.cutting.specs.declared.transfer_type.TransferType.TheVariants.{FixedSize}
 use Rattle.cutting.specs.declared.packetiser.Arm.{Arm}
-use Rattle.cutting.specs.declared.packetiser.OptionArm.{OptionArm}
-use Rattle.cutting.specs.declared.packetiser.OptionArm.TheVariants.{Some, None}
 use Rattle.cutting.specs.declared.packetiser.InPacketiser.{InPacketiser}
 use Rattle.cutting.specs.declared.packetiser.OutCounters.{OutCounters}
 use Rattle.cutting.specs.declared.depacketiser.InDepacketiser.{InDepacketiser}
@@ -20,14 +19,8 @@ use Rattle.transfers.specs.declared.host_controller.DataPhase.TheVariants.{In as
 use Rattle.transfers.specs.declared.host_controller.TransferExtras.{TransferExtras}
 use Rattle.transfers.specs.declared.wire.SetupPacket.{SetupPacket}
 use Rattle.transfers.specs.declared.wire.Direction.TheVariants.{In, Out}
-use Rattle.transfers.specs.declared.answers.BeginAnswer.TheVariants.{Begun}
-use Rattle.transfers.specs.declared.answers.StepAnswer.TheVariants.{Done}
-use Rattle.transfers.specs.declared.sample.Poll.{Poll}
-use Rattle.transfers.specs.declared.sample.Poll.TheVariants.{Pending}
 use Rattle.transfers.specs.declared.sample.Found.{Found}
 use Rattle.transfers.specs.declared.sample.Found.TheVariants.{Complete, Failed, Neither}
-use Rattle.transfers.specs.declared.driver.Transfer.{Transfer}
-use Rattle.transfers.specs.declared.driver.Transfer.TheVariants.{Idle, Busy}
 use Rattle.transfers.specs.declared.driver.Run.{Run}
 use Rattle.transfers.specs.declared.driver.Request.{Request}
 use Rattle.transfers.specs.declared.driver.Kind.TheVariants.{Control as control}
@@ -55,6 +48,7 @@ use Rattle.rules.proofs.Armed.{armings_append, arms_shown, head_silent, enable_s
 use Rattle.rules.proofs.InStage.{not_done, waiting_not, refused_not, by_poll}
 use Rattle.rules.proofs.Spent.{in_two_spent, status_start_in}
 use Rattle.rules.proofs.Steps.{absurd_done, after_more, writes_more, writes_none, writes_end, after_none, idle_next, idle_not, accepted}
+use Rattle.transfers.specs.declared.answers.Step.TheVariants.{Done}
 
 slots_append : (a b : List ArmedSlot) → slots_in (a ++ b) ≡ slots_in a ++ slots_in b
 slots_append [] b = refl
@@ -94,7 +88,7 @@ none_got : Got [] []
 none_got = got_silent [] none_armed
 
 -- OUT packets are FULL.
-out_armed_got : (o : OptionArm) (c : OutCounters) (k off : ℕ) (buf m : List ℕ) → ((a : Arm) → o ≡ Some a → a.length ≤ 64) → Got [] (out_armed o c k off buf m).writes
+out_armed_got : (o : Option Arm) (c : OutCounters) (k off : ℕ) (buf m : List ℕ) → ((a : Arm) → o ≡ Some a → a.length ≤ 64) → Got [] (out_armed o c k off buf m).writes
 out_armed_got None c k off buf m h = none_got
 out_armed_got (Some a) c k off buf m h = got_armed (shown true (packet a.slot a.pid a.last a.length) ∷ []) (out_armed (Some a) c k off buf m).writes (λ old. arms_shown true a old (h a refl))
 
@@ -125,8 +119,8 @@ module _ (a p n len : ℕ) (ph : DataPhase) (not_in : ph ≡ phase_in → ⊥) (
   abbrev asks : Request
   asks = record { address = a; size = p; kind = control (record { phase = ph; wLength = n }); length = len }
 
-  abbrev busy : Stage → Transfer
-  busy st = Busy (record { request = asks; stage = st })
+  abbrev busy : Stage → Option Run
+  busy st = Some (record { request = asks; stage = st })
 
   abbrev one : List ArmedSlot
   one = shown false (packet false true true p) ∷ []
@@ -145,8 +139,8 @@ module _ (a p n len : ℕ) (ph : DataPhase) (not_in : ph ≡ phase_in → ⊥) (
 
   -- What a step comes to, with `l` armed before it.
   data Comes (l : List ArmedSlot) (o : Outcome) : Type 0 where
-    fails : o.next ≡ Idle → not_done o.answer → Comes l o
-    ends : o.next ≡ Idle → l ≡ one → Got [] o.writes → Comes l o
+    fails : o.next ≡ None → not_done o.answer → Comes l o
+    ends : o.next ≡ None → l ≡ one → Got [] o.writes → Comes l o
     early : (st : Stage) → o.next ≡ busy st → Early st → not_done o.answer → l ≡ [] → Got [] o.writes → Comes l o
     late : (st : InStage) (k : List ArmedSlot) → o.next ≡ busy (in_stage st) → Armed st → not_done o.answer → Got k o.writes → l ++ k ≡ one → Comes l o
 
@@ -288,8 +282,8 @@ module _ (a p n len : ℕ) (ph : DataPhase) (not_in : ph ≡ phase_in → ⊥) (
       ready f = after_comes l (polled ∷ []) (stage_step f asks st y.sample.buffers buf y.memory) polled_silent (stage_comes l st at f y.sample.buffers buf y.memory)
 
       polled_comes : Comes l (polls (classify y.sample.status y.sample.intr) asks st y.sample.buffers buf y.memory)
-      polled_comes = by_poll y.sample (λ (u : Poll) (q c : Bool). Comes l (polls u asks st y.sample.buffers buf y.memory))
-          (λ c. same_stage l st at (polls Pending asks st y.sample.buffers buf y.memory) refl (waiting_not false) pending_silent)
+      polled_comes = by_poll y.sample (λ (u : Option Found) (q c : Bool). Comes l (polls u asks st y.sample.buffers buf y.memory))
+          (λ c. same_stage l st at (polls None asks st y.sample.buffers buf y.memory) refl (waiting_not false) pending_silent)
           (ready Complete) (λ e. ready (Failed e)) (ready Neither)
 
       if_comes : (c d : Bool) → Comes l (step_if c d r y.sample buf y.memory)
@@ -297,18 +291,18 @@ module _ (a p n len : ℕ) (ph : DataPhase) (not_in : ph ≡ phase_in → ⊥) (
       if_comes true false = same_stage l st at (step_if true false r y.sample buf y.memory) refl (refused_not _) none_armed
       if_comes true true = polled_comes
 
-      lent_comes : (b : Bool) → Comes l (step_lent b filling (Busy r) y.sample buf y.memory)
-      lent_comes false = same_stage l st at (step_lent false filling (Busy r) y.sample buf y.memory) refl (refused_not _) none_armed
+      lent_comes : (b : Bool) → Comes l (step_lent b filling (Some r) y.sample buf y.memory)
+      lent_comes false = same_stage l st at (step_lent false filling (Some r) y.sample buf y.memory) refl (refused_not _) none_armed
       lent_comes true = if_comes (may_step filling r) (eqb (length buf) len)
 
   -- ---- lists of steps
 
   data Standing (h : Running) (ws : List Write) : Type 0 where
-    gone : h.transfer ≡ Idle → Standing h ws
+    gone : h.transfer ≡ None → Standing h ws
     under : (st : Stage) (l : List ArmedSlot) → h.transfer ≡ busy st → At l st → Got l ws → Standing h ws
 
   running_comes : (filling : Bool) (h : Running) (y : StepCall) (st : Stage) (l : List ArmedSlot) → h.transfer ≡ busy st → At l st → Comes l (step_by filling h y)
-  running_comes filling h y st l e at = subst (λ (t : Transfer). Comes l (step_by filling (record { transfer = t; buffer = h.buffer }) y)) (sym e) (step_comes filling l st h.buffer y at)
+  running_comes filling h y st l e at = subst (λ (t : Option Run). Comes l (step_by filling (record { transfer = t; buffer = h.buffer }) y)) (sym e) (step_comes filling l st h.buffer y at)
 
   on_step : (filling : Bool) (h : Running) (ws : List Write) (y : StepCall) → Standing h ws → Standing (after_step (step_by filling h y)) (ws ++ (step_by filling h y).writes)
   on_step filling h ws y (gone e) = gone (idle_next filling h y e)
@@ -327,7 +321,7 @@ module _ (a p n len : ℕ) (ph : DataPhase) (not_in : ph ≡ phase_in → ⊥) (
       rw (after_more filling h y ys, writes_more filling h y ys)
       (subst (Standing (after_steps filling (after_step o) ys)) (append_assoc ws o.writes (writes_of filling (after_step o) ys)) (on_steps filling ys (after_step o) (ws ++ o.writes) (on_step filling h ws y q)))
 
-  at_end : (filling : Bool) (h : Running) (ws : List Write) (y : StepCall) (count : ℕ) → Standing h ws → (step_by filling h y).answer ≡ Done count → Got one (ws ++ (step_by filling h y).writes)
+  at_end : (filling : Bool) (h : Running) (ws : List Write) (y : StepCall) (count : ℕ) → Standing h ws → (step_by filling h y).answer ≡ Ok (Done count) → Got one (ws ++ (step_by filling h y).writes)
   at_end filling h ws y count (gone e) d = absurd_done (step_by filling h y).answer count (idle_not filling h y e) d
   at_end filling h ws y count (under st l e at g) d = by (running_comes filling h y st l e at)
     where
@@ -337,11 +331,11 @@ module _ (a p n len : ℕ) (ph : DataPhase) (not_in : ph ≡ phase_in → ⊥) (
       by (early st' q r f z k) = absurd_done (step_by filling h y).answer count f d
       by (late st' k q r f u z) = absurd_done (step_by filling h y).answer count f d
 
-pub status_armed : (filling : Bool) (t : Transfer) (a : ℕ) (x : TransferExtras) (p : ℕ) (s : SetupPacket) (ph : DataPhase) (first m log : List ℕ) → (ph ≡ phase_in → ⊥)
-    → (begin_control_of t a x p s ph first m log).answer ≡ Begun
+pub status_armed : (filling : Bool) (t : Option Run) (a : ℕ) (x : TransferExtras) (p : ℕ) (s : SetupPacket) (ph : DataPhase) (first m log : List ℕ) → (ph ≡ phase_in → ⊥)
+    → (begin_control_of t a x p s ph first m log).answer ≡ Ok tt
     → (ys : List StepCall) (y : StepCall) (count : ℕ)
     → let h : Running = record { transfer = (begin_control_of t a x p s ph first m log).next; buffer = first } in
-    (step_by filling (after_steps filling h ys) y).answer ≡ Done count
+    (step_by filling (after_steps filling h ys) y).answer ≡ Ok (Done count)
     → (old : ℕ) → slots_in (armings old ((begin_control_of t a x p s ph first m log).writes ++ writes_of filling h (ys ++ (y ∷ [])))) ≡ shown false (packet false true true p) ∷ []
 unfolding begin_control_of
 status_armed filling t a x p s ph first m log not_in q ys y count d old =

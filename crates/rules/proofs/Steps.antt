@@ -1,4 +1,5 @@
 -- Lists of steps, and begins that are accepted. Assumes nothing.
+use Rattle.std.specs.Prelude.{Err, None, Ok, Option, Result, Some}
 use mathlib.Core.Path.{◌≡◌, refl, sym, ap, ◌∙◌, subst}
 use mathlib.Core.Bool.{Bool, true, false, not}
 use mathlib.Core.List.{List, [], ◌∷◌, ◌++◌, append_assoc, append-nil}
@@ -7,13 +8,6 @@ use native.Mathlib.Omega.{arith}
 use lib.ListN.{length}
 use Rattle.cutting.specs.declared.depacketiser.InDepacketiser.{InDepacketiser}
 use Rattle.transfers.specs.declared.refusal.Refusal.{Refusal}
-use Rattle.transfers.specs.declared.refusal.OptionRefusal.{OptionRefusal}
-use Rattle.transfers.specs.declared.refusal.OptionRefusal.TheVariants.{Some, None}
-use Rattle.transfers.specs.declared.answers.BeginAnswer.TheVariants.{Begun, Refused as refused_begin}
-use Rattle.transfers.specs.declared.answers.StepAnswer.{StepAnswer}
-use Rattle.transfers.specs.declared.answers.StepAnswer.TheVariants.{Done}
-use Rattle.transfers.specs.declared.driver.Transfer.{Transfer}
-use Rattle.transfers.specs.declared.driver.Transfer.TheVariants.{Idle, Busy}
 use Rattle.transfers.specs.Outcome.{flipped}
 use Rattle.transfers.specs.Calls.{well_formed, is_idle, step_lent, step_of, begin_refusal, Beginning, begin_or}
 use Rattle.rules.specs.Received.{StepCall, lent_well, slot_of, Tally, tally_step, tallied, ControlTally, control_by, control_tally, Running, step_by, after_step, after_steps, toggled, Moved}
@@ -22,12 +16,15 @@ use Rattle.rules.specs.Armed.{writes_of}
 use Rattle.cutting.proofs.Filled.{total_joined}
 use Rattle.rules.proofs.Retired.{slot_zero, slot_suc, Kept}
 use Rattle.rules.proofs.InStage.{ending, not_done, refused_not}
+use Rattle.transfers.specs.declared.answers.Step.TheVariants.{Done}
+use Rattle.transfers.specs.declared.answers.Step.{Step}
+use Rattle.transfers.specs.declared.driver.Run.{Run}
 
-pub absurd_done : {A : Type 0} (a : StepAnswer) (n : ℕ) → not_done a → a ≡ Done n → A
+pub absurd_done : {A : Type 0} (a : Result Step Refusal) (n : ℕ) → not_done a → a ≡ Ok (Done n) → A
 unfolding not_done
 absurd_done a n f e = absurd (f n e)
 
-pub done_is : (m n : ℕ) → Done m ≡ Done n → m ≡ n
+pub done_is : (m n : ℕ) → ◌≡◌ {A = Result Step Refusal} (Ok (Done m)) (Ok (Done n)) → m ≡ n
 done_is m n e = cc
 
 -- ---- lists of steps
@@ -83,19 +80,19 @@ writes_end f (z ∷ ys) h y =
     ap (λ (l : List Write). o.writes ++ l) (writes_end f ys h' y) ∙ sym (append_assoc o.writes (writes_of f h' ys) (step_by f (after_steps f h' ys) y).writes)
 
 -- Nothing under way: a step is refused.
-idle_stays : (f : Bool) (buf : List ℕ) (y : StepCall) → ((step_by f (record { transfer = Idle; buffer = buf }) y).next ≡ Idle) × not_done (step_by f (record { transfer = Idle; buffer = buf }) y).answer
+idle_stays : (f : Bool) (buf : List ℕ) (y : StepCall) → ((step_by f (record { transfer = None; buffer = buf }) y).next ≡ None) × not_done (step_by f (record { transfer = None; buffer = buf }) y).answer
 unfolding step_of
 idle_stays f buf y = by (lent_well y)
   where
-    by : (b : Bool) → ((step_lent b f Idle y.sample buf y.memory).next ≡ Idle) × not_done (step_lent b f Idle y.sample buf y.memory).answer
+    by : (b : Bool) → ((step_lent b f None y.sample buf y.memory).next ≡ None) × not_done (step_lent b f None y.sample buf y.memory).answer
     by true = (refl, refused_not _)
     by false = (refl, refused_not _)
 
-pub idle_next : (f : Bool) (h : Running) (y : StepCall) → h.transfer ≡ Idle → (step_by f h y).next ≡ Idle
-idle_next f h y e = ap (λ (t : Transfer). (step_by f (record { transfer = t; buffer = h.buffer }) y).next) e ∙ (idle_stays f h.buffer y).0
+pub idle_next : (f : Bool) (h : Running) (y : StepCall) → h.transfer ≡ None → (step_by f h y).next ≡ None
+idle_next f h y e = ap (λ (t : Option Run). (step_by f (record { transfer = t; buffer = h.buffer }) y).next) e ∙ (idle_stays f h.buffer y).0
 
-pub idle_not : (f : Bool) (h : Running) (y : StepCall) → h.transfer ≡ Idle → not_done (step_by f h y).answer
-idle_not f h y e = subst (λ (t : Transfer). not_done (step_by f (record { transfer = t; buffer = h.buffer }) y).answer) (sym e) (idle_stays f h.buffer y).1
+pub idle_not : (f : Bool) (h : Running) (y : StepCall) → h.transfer ≡ None → not_done (step_by f h y).answer
+idle_not f h y e = subst (λ (t : Option Run). not_done (step_by f (record { transfer = t; buffer = h.buffer }) y).answer) (sym e) (idle_stays f h.buffer y).1
 
 -- ---- toggles
 
@@ -117,16 +114,16 @@ kept_moved n first few room got d buf k = record { counted = k.stored.offset ∙
 
 -- ---- begins
 
-pub refused_begun : {A : Type 0} (e : Refusal) → refused_begin e ≡ Begun → A
+pub refused_begun : {A : Type 0} (e : Refusal) → ◌≡◌ {A = Result (Unit {0}) Refusal} (Err e) (Ok tt) → A
 refused_begun e q = absurd (let z : ◌≡◌ {A = ℕ} 0 1 = cc in omega arith)
 
 -- A begin that is accepted: nothing refuses it.
-pub accepted : (r : OptionRefusal) (t : Transfer) (m : List ℕ) (b : Beginning) → (begin_or r t m b).answer ≡ Begun → (r ≡ None) × (begin_or r t m b ≡ b)
-accepted (Some e) t m b q = refused_begun e q
-accepted None t m b q = (refl, refl)
+pub accepted : (r : Result (Unit {0}) Refusal) (t : Option Run) (m : List ℕ) (b : Beginning) → (begin_or r t m b).answer ≡ Ok tt → (r ≡ Ok tt) × (begin_or r t m b ≡ b)
+accepted (Err e) t m b q = refused_begun e q
+accepted (Ok tt) t m b q = (refl, refl)
 
 -- Only where nothing is under way.
-pub none_idle : (l : Bool) (t : Transfer) (r : OptionRefusal) → begin_refusal l (is_idle t) r ≡ None → well_formed t ≡ true
-none_idle l Idle r e = refl
-none_idle true (Busy x) r e = absurd (let z : ◌≡◌ {A = ℕ} 0 1 = cc in omega arith)
-none_idle false (Busy x) r e = absurd (let z : ◌≡◌ {A = ℕ} 0 1 = cc in omega arith)
+pub none_idle : (l : Bool) (t : Option Run) (r : Result (Unit {0}) Refusal) → begin_refusal l (is_idle t) r ≡ Ok tt → well_formed t ≡ true
+none_idle l None r e = refl
+none_idle true (Some x) r e = absurd (let z : ◌≡◌ {A = ℕ} 0 1 = cc in omega arith)
+none_idle false (Some x) r e = absurd (let z : ◌≡◌ {A = ℕ} 0 1 = cc in omega arith)

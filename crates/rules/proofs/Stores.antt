@@ -1,4 +1,5 @@
 -- What begin and step leave of packet memory as lent. Assumes nothing.
+use Rattle.std.specs.Prelude.{Err, None, Ok, Option, Result, Some}
 use mathlib.Core.Path.{◌≡◌, refl, ap, sym, ◌∙◌}
 use mathlib.Core.Bool.{Bool, true, false, ◌&&◌, true≢false}
 use mathlib.Core.List.{List, [], ◌∷◌}
@@ -10,8 +11,6 @@ use lib.Dec.{eqb, leb, ltb}
 use lib.Seq.{sets, length-sets, get_or-set_other, ext_get_or}
 use Rattle.cutting.specs.declared.transfer_type.TransferType.{TransferType}
 use Rattle.cutting.specs.declared.transfer_type.TransferType.TheVariants.{FixedSize}
-use Rattle.cutting.specs.declared.packetiser.OptionArm.{OptionArm}
-use Rattle.cutting.specs.declared.packetiser.OptionArm.TheVariants.{Some, None}
 use Rattle.cutting.specs.declared.packetiser.OutCounters.{OutCounters}
 use Rattle.cutting.specs.declared.depacketiser.InDepacketiser.{InDepacketiser}
 use Rattle.cutting.specs.Counters.{out_start, out_next}
@@ -21,16 +20,10 @@ use Rattle.transfers.specs.declared.host_controller.TransferExtras.{TransferExtr
 use Rattle.transfers.specs.declared.wire.SetupPacket.{SetupPacket}
 use Rattle.transfers.specs.declared.wire.Direction.TheVariants.{In, Out}
 use Rattle.transfers.specs.declared.writes.Target.{Target}
-use Rattle.transfers.specs.declared.refusal.OptionRefusal.{OptionRefusal}
-use Rattle.transfers.specs.declared.refusal.OptionRefusal.TheVariants.{Some as refused, None as accepted}
 use Rattle.transfers.specs.declared.answers.Armed.{Armed}
 use Rattle.transfers.specs.declared.sample.Sample.{Sample}
-use Rattle.transfers.specs.declared.sample.Poll.{Poll}
-use Rattle.transfers.specs.declared.sample.Poll.TheVariants.{Pending, Ready}
 use Rattle.transfers.specs.declared.sample.Found.{Found}
 use Rattle.transfers.specs.declared.sample.Found.TheVariants.{Complete, Failed, Neither}
-use Rattle.transfers.specs.declared.driver.Transfer.{Transfer}
-use Rattle.transfers.specs.declared.driver.Transfer.TheVariants.{Idle, Busy}
 use Rattle.transfers.specs.declared.driver.Run.{Run}
 use Rattle.transfers.specs.declared.driver.Request.{Request}
 use Rattle.transfers.specs.declared.driver.Kind.{Kind}
@@ -50,6 +43,8 @@ use Rattle.transfers.specs.Step.{setup_done, setup_step, in_received, in_control
 use Rattle.transfers.specs.Calls.{step_if, may_step, step_lent, step_of, fields_refusal, begin_refusal, Beginning, begin_or, is_idle, bulk_request, begins_control, begin_control_of, begins_bulk_in, begin_bulk_in_of, begins_bulk_out, begin_bulk_out_of}
 use Rattle.transfers.proofs.Steps.{rearm_memory, out_complete_memory}
 use Rattle.rules.specs.Stores.{slot_start, packet_byte, StoresArmed, Stores}
+use Rattle.transfers.specs.declared.refusal.Refusal.{Refusal}
+use Rattle.cutting.specs.declared.packetiser.Arm.{Arm}
 
 -- What is stored leaves every byte before and after it.
 sets_outside : (vs l : List ℕ) (at i : ℕ) → (at ≤ i → i < at + length vs → ⊥) → get_or (sets l at vs) i 0 ≡ get_or l i 0
@@ -90,7 +85,7 @@ arm_stores : (address endpoint w : ℕ) (c : OutCounters) (k : ℕ) (buf m : Lis
 unfolding out_arm
 arm_stores address endpoint w c k buf m = may (may_arm w k c.slot)
   where
-    with_arm : (a : OptionArm) → (length (out_armed a (out_next c).rest k c.offset buf m).memory ≡ length m)
+    with_arm : (a : Option Arm) → (length (out_armed a (out_next c).rest k c.offset buf m).memory ≡ length m)
         × ((i : ℕ) → packet_byte (out_of address endpoint (out_armed a (out_next c).rest k c.offset buf m).arm) i ≡ false
         → get_or (out_armed a (out_next c).rest k c.offset buf m).memory i 0 ≡ get_or m i 0)
     with_arm None = (refl, λ i e. refl)
@@ -183,9 +178,9 @@ stage_stores f x (in_stage st) w buf m =
 stage_stores f x (out_stage st) w buf m =
     keeping_stores st.status buf (out_step f x st w (lent st.status buf) m) m (out_stores f x st w (lent st.status buf) m)
 
-polls_stores : (p : Poll) (x : Request) (st : Stage) (w : ℕ) (buf m : List ℕ) → StoresArmed (polls p x st w buf m).armed m (polls p x st w buf m).memory
-polls_stores Pending x st w buf m = stores_same m
-polls_stores (Ready f) x st w buf m = stage_stores f x st w buf m
+polls_stores : (p : Option Found) (x : Request) (st : Stage) (w : ℕ) (buf m : List ℕ) → StoresArmed (polls p x st w buf m).armed m (polls p x st w buf m).memory
+polls_stores None x st w buf m = stores_same m
+polls_stores (Some f) x st w buf m = stage_stores f x st w buf m
 
 step_if_stores : (a b : Bool) (r : Run) (s : Sample) (buf m : List ℕ) → StoresArmed (step_if a b r s buf m).armed m (step_if a b r s buf m).memory
 unfolding acts
@@ -193,33 +188,33 @@ step_if_stores false b r s buf m = stores_same m
 step_if_stores true false r s buf m = stores_same m
 step_if_stores true true r s buf m = polls_stores (classify s.status s.intr) r.request r.stage s.buffers buf m
 
-step_lent_stores : (l b : Bool) (t : Transfer) (s : Sample) (buf m : List ℕ) → StoresArmed (step_lent l b t s buf m).armed m (step_lent l b t s buf m).memory
+step_lent_stores : (l b : Bool) (t : Option Run) (s : Sample) (buf m : List ℕ) → StoresArmed (step_lent l b t s buf m).armed m (step_lent l b t s buf m).memory
 step_lent_stores false b t s buf m = stores_same m
-step_lent_stores true b Idle s buf m = stores_same m
-step_lent_stores true b (Busy r) s buf m = step_if_stores (may_step b r) (eqb (length buf) r.request.length) r s buf m
+step_lent_stores true b None s buf m = stores_same m
+step_lent_stores true b (Some r) s buf m = step_if_stores (may_step b r) (eqb (length buf) r.request.length) r s buf m
 
-step_stores : (b : Bool) (t : Transfer) (s : Sample) (buf m log : List ℕ) → StoresArmed (step_of b t s buf m log).armed m (step_of b t s buf m log).memory
+step_stores : (b : Bool) (t : Option Run) (s : Sample) (buf m log : List ℕ) → StoresArmed (step_of b t s buf m log).armed m (step_of b t s buf m log).memory
 unfolding step_of
 step_stores b t s buf m log = step_lent_stores (lent_fits m log) b t s buf m
 
 -- ---- begins
 
-begin_or_stores : (r : OptionRefusal) (t : Transfer) (m : List ℕ) (b : Beginning) → StoresArmed b.armed m b.memory → StoresArmed (begin_or r t m b).armed m (begin_or r t m b).memory
-begin_or_stores (refused e) t m b p = stores_same m
-begin_or_stores accepted t m b p = p
+begin_or_stores : (r : Result (Unit {0}) Refusal) (t : Option Run) (m : List ℕ) (b : Beginning) → StoresArmed b.armed m b.memory → StoresArmed (begin_or r t m b).armed m (begin_or r t m b).memory
+begin_or_stores (Err e) t m b p = stores_same m
+begin_or_stores (Ok tt) t m b p = p
 
-begin_control_stores : (t : Transfer) (a : ℕ) (x : TransferExtras) (p : ℕ) (s : SetupPacket) (ph : DataPhase) (buf m log : List ℕ) → StoresArmed (begin_control_of t a x p s ph buf m log).armed m (begin_control_of t a x p s ph buf m log).memory
+begin_control_stores : (t : Option Run) (a : ℕ) (x : TransferExtras) (p : ℕ) (s : SetupPacket) (ph : DataPhase) (buf m log : List ℕ) → StoresArmed (begin_control_of t a x p s ph buf m log).armed m (begin_control_of t a x p s ph buf m log).memory
 unfolding begin_control_of
 begin_control_stores t a x p s ph buf m log =
     begin_or_stores (begin_refusal (lent_fits m log) (is_idle t) (fields_refusal (address_good a) true (size_good p) true)) t m (begins_control a x p s ph (length buf) m) (stores_same m)
 
-begin_bulk_in_stores : (t : Transfer) (a e p : ℕ) (k : TransferType) (b : Bool) (buf m log : List ℕ) → StoresArmed (begin_bulk_in_of t a e p k b buf m log).armed m (begin_bulk_in_of t a e p k b buf m log).memory
+begin_bulk_in_stores : (t : Option Run) (a e p : ℕ) (k : TransferType) (b : Bool) (buf m log : List ℕ) → StoresArmed (begin_bulk_in_of t a e p k b buf m log).armed m (begin_bulk_in_of t a e p k b buf m log).memory
 unfolding begin_bulk_in_of
 begin_bulk_in_stores t a e p k b buf m log =
     begin_or_stores (begin_refusal (lent_fits m log) (is_idle t) (fields_refusal (address_good a) (endpoint_good e) (size_good p) (leb (length buf) 0xFFFF))) t m
     (begins_bulk_in (bulk_request In a e p b (length buf)) k m) (stores_same m)
 
-begin_bulk_out_stores : (t : Transfer) (a e p : ℕ) (k : TransferType) (b : Bool) (buf m log : List ℕ) → StoresArmed (begin_bulk_out_of t a e p k b buf m log).armed m (begin_bulk_out_of t a e p k b buf m log).memory
+begin_bulk_out_stores : (t : Option Run) (a e p : ℕ) (k : TransferType) (b : Bool) (buf m log : List ℕ) → StoresArmed (begin_bulk_out_of t a e p k b buf m log).armed m (begin_bulk_out_of t a e p k b buf m log).memory
 unfolding begin_bulk_out_of
 begin_bulk_out_stores t a e p k b buf m log =
     let x = bulk_request Out a e p b (length buf) in

@@ -1,4 +1,5 @@
 -- The toggle that goes out with a failure or a cancel, along every list of calls. Assumes nothing.
+use Rattle.std.specs.Prelude.{Err, None, Ok, Option, Result, Some}
 use mathlib.Core.Path.{◌≡◌, refl, sym, ap, ap₂, ◌∙◌, subst}
 use mathlib.Core.Bool.{Bool, true, false, not, cond, ◌&&◌}
 use mathlib.Core.Logic.{◌⊎◌, inl, inr}
@@ -17,16 +18,9 @@ use Rattle.transfers.specs.declared.wire.Direction.{Direction}
 use Rattle.transfers.specs.declared.wire.Direction.TheVariants.{In, Out}
 use Rattle.transfers.specs.declared.refusal.Refusal.{Refusal}
 use Rattle.transfers.specs.declared.refusal.Refusal.TheVariants.{LentMemory, State}
-use Rattle.transfers.specs.declared.refusal.OptionRefusal.{OptionRefusal}
-use Rattle.transfers.specs.declared.refusal.OptionRefusal.TheVariants.{Some as SomeRefusal, None as NoRefusal}
-use Rattle.transfers.specs.declared.answers.StepAnswer.{StepAnswer}
-use Rattle.transfers.specs.declared.answers.StepAnswer.TheVariants.{Waiting, Done, Refused}
 use Rattle.transfers.specs.declared.sample.Sample.{Sample}
-use Rattle.transfers.specs.declared.sample.Poll.{Poll}
 use Rattle.transfers.specs.declared.sample.Found.{Found}
 use Rattle.transfers.specs.declared.sample.Found.TheVariants.{Complete, Failed, Neither}
-use Rattle.transfers.specs.declared.driver.Transfer.{Transfer}
-use Rattle.transfers.specs.declared.driver.Transfer.TheVariants.{Idle, Busy}
 use Rattle.transfers.specs.declared.driver.Driver.{Driver}
 use Rattle.transfers.specs.declared.driver.Run.{Run}
 use Rattle.transfers.specs.declared.driver.DeskRule.{DeskRule}
@@ -67,6 +61,8 @@ use Rattle.rules.proofs.Steps.{absurd_done}
 use Rattle.rules.proofs.KeepsBytes.{StaysWith, NoToggle, Keeps, first_one, second_one, Long, HeldBy, Nine, parity_toggle, acts_keeps, by_busy, by_idle, same_long}
 use Rattle.rules.proofs.Sends.{At, Comes, fails as fails_out, goes as goes_out, finishes as finishes_out, polled_comes, starts as starts_out, same_full, same_flight, flips_slot}
 use Rattle.rules.proofs.HandsBack.{Fair, acts_fair, same_toggle}
+use Rattle.transfers.specs.declared.answers.Step.TheVariants.{Done, Waiting}
+use Rattle.transfers.specs.declared.answers.Step.{Step}
 
 -- ---- receiving: one slot
 
@@ -112,8 +108,8 @@ module _ (a e p : ℕ) (k : TransferType) (b : Bool) (n : ℕ) where
   abbrev slots : ℕ
   slots = length (in_cut_of k p b n)
 
-  abbrev in_busy : InStage → Transfer
-  in_busy st = Busy (record { request = in_x; stage = in_stage st })
+  abbrev in_busy : InStage → Option Run
+  in_busy st = Some (record { request = in_x; stage = in_stage st })
 
   record InAt (st : InStage) (s : SentTally) : Type 0 where
     left : List (Packet ℕ)
@@ -123,9 +119,9 @@ module _ (a e p : ℕ) (k : TransferType) (b : Bool) (n : ℕ) where
 
   -- What a step that acts comes to.
   data InComes (s t : SentTally) (o : Outcome) : Type 0 where
-    fails : o.next ≡ Idle → not_done o.answer → InComes s t o
+    fails : o.next ≡ None → not_done o.answer → InComes s t o
     goes : (st : InStage) → o.next ≡ in_busy st → InAt st t → not_done o.answer → InComes s t o
-    finishes : o.next ≡ Idle → o.toggle ≡ flip_times b s.retired → InComes s t o
+    finishes : o.next ≡ None → o.toggle ≡ flip_times b s.retired → InComes s t o
 
   after_comes : (s t : SentTally) (ws : List Write) (o : Outcome) → InComes s t o → InComes s t (after ws o)
   after_comes s t ws o (fails q f) = fails q f
@@ -201,7 +197,7 @@ module _ (a e p : ℕ) (k : TransferType) (b : Bool) (n : ℕ) where
   unfolding acts
   in_comes st s h y buf m =
       let w = y.buffers in
-      by_poll y (λ (u : Poll) (q c : Bool). InComes (done_two In w s) (tallied_by q In slots w s) (polls u in_x (in_stage st) w buf m))
+      by_poll y (λ (u : Option Found) (q c : Bool). InComes (done_two In w s) (tallied_by q In slots w s) (polls u in_x (in_stage st) w buf m))
       (λ c. goes st refl h (waiting_not false))
       (ready st s h w buf m Complete (completed st s h w buf m))
       (λ x. ready st s h w buf m (Failed x) (fails refl (refused_not _)))
@@ -213,11 +209,11 @@ abbrev NotBulkKind : Kind → Type 0
 NotBulkKind (control c) = Unit {0}
 NotBulkKind (bulk_kind b) = ⊥
 
-abbrev NotBulk : Transfer → Type 0
-NotBulk Idle = Unit {0}
-NotBulk (Busy r) = NotBulkKind r.request.kind
+abbrev NotBulk : Option Run → Type 0
+NotBulk None = Unit {0}
+NotBulk (Some r) = NotBulkKind r.request.kind
 
-record InHolds (b : Bool) (packets : ℕ) (s : SentTally) (t : Transfer) : Type 0 where
+record InHolds (b : Bool) (packets : ℕ) (s : SentTally) (t : Option Run) : Type 0 where
   a : ℕ
   e : ℕ
   p : ℕ
@@ -228,10 +224,10 @@ record InHolds (b : Bool) (packets : ℕ) (s : SentTally) (t : Transfer) : Type 
   many : packets ≡ length (in_cut_of k p b n)
   at : InAt a e p k b n st s
 
-abbrev out_busy : ℕ → ℕ → ℕ → Bool → ℕ → OutStage → Transfer
-out_busy a e p b n st = Busy (record { request = bulk_request Out a e p b n; stage = out_stage st })
+abbrev out_busy : ℕ → ℕ → ℕ → Bool → ℕ → OutStage → Option Run
+out_busy a e p b n st = Some (record { request = bulk_request Out a e p b n; stage = out_stage st })
 
-record OutHolds (b : Bool) (packets : ℕ) (s : SentTally) (t : Transfer) : Type 0 where
+record OutHolds (b : Bool) (packets : ℕ) (s : SentTally) (t : Option Run) : Type 0 where
   a : ℕ
   e : ℕ
   p : ℕ
@@ -242,11 +238,11 @@ record OutHolds (b : Bool) (packets : ℕ) (s : SentTally) (t : Transfer) : Type
   many : packets ≡ length (out_cut k p b first)
   at : At a e p k b first st s
 
-abbrev BulkHolds : Direction → Bool → ℕ → SentTally → Transfer → Type 0
+abbrev BulkHolds : Direction → Bool → ℕ → SentTally → Option Run → Type 0
 BulkHolds In b packets s t = InHolds b packets s t
 BulkHolds Out b packets s t = OutHolds b packets s t
 
-abbrev Holds : UnderWay → Transfer → Type 0
+abbrev Holds : UnderWay → Option Run → Type 0
 Holds none t = NotBulk t
 Holds (bulk u) t = BulkHolds u.direction u.toggle u.packets u.tally t
 
@@ -269,7 +265,7 @@ Told rule u y o = StepToggle rule u y o.answer (toggle_by_rule rule o.toggle o.m
 -- A bulk transfer's step that acts, by its answer, from: how it goes on, what done hands out, and rule 2's toggle with the packets of earlier steps and at 9.
 acts_told : (rule : DeskRule) (u : BulkUnderWay) (x : Request) (st : Stage) (y : Sample) (buf m : List ℕ) → let o = acts x st y buf m in kind_toggle x.kind ≡ u.toggle
     → (StaysWith x o.next → Holds (bulk (moved_on u y)) o.next)
-    → ((count : ℕ) → o.answer ≡ Done count → o.toggle ≡ flip_times u.toggle (done_two u.direction y.buffers u.tally).retired)
+    → ((count : ℕ) → o.answer ≡ Ok (Done count) → o.toggle ≡ flip_times u.toggle (done_two u.direction y.buffers u.tally).retired)
     → parity_toggle x st ≡ flip_times u.toggle u.tally.retired
     → ((n : ℕ) → Nine x.kind st y.buffers buf m o.buffer o.moved → eqb n 9 ≡ true → o.moved ≡ flip_times u.toggle (retired_before n u y))
     → Told rule (bulk u) y o
@@ -285,18 +281,18 @@ acts_told rule u x st y buf m kd goes_on ends earlier nine = by o.answer refl (a
     refused n (inl z) = rw z.2 (z.1 ∙ earlier)
     refused n (inr z) = nine n z.0 z.1
 
-    by : (a : StepAnswer) → o.answer ≡ a → Fair (kind_toggle x.kind) a o.toggle o.next → Keeps buf x (parity_toggle x st) N a o.buffer o.toggle o.moved o.next
+    by : (a : Result Step Refusal) → o.answer ≡ a → Fair (kind_toggle x.kind) a o.toggle o.next → Keeps buf x (parity_toggle x st) N a o.buffer o.toggle o.moved o.next
         → StepToggle rule (bulk u) y a (toggle_by_rule rule o.toggle o.moved) × Holds (stepped_on (bulk u) y a) o.next
-    by (Waiting again) q f k = (handed rule o.toggle o.moved u.toggle (f.0 ∙ kd) (k.0 ∙ f.0 ∙ kd), goes_on k.1)
-    by (Done count) q f k = (handed rule o.toggle o.moved _ (ends count q) (k.0 ∙ ends count q), subst NotBulk (sym f) tt)
-    by (Refused why) q f k =
+    by (Ok (Waiting again)) q f k = (handed rule o.toggle o.moved u.toggle (f.0 ∙ kd) (k.0 ∙ f.0 ∙ kd), goes_on k.1)
+    by (Ok (Done count)) q f k = (handed rule o.toggle o.moved _ (ends count q) (k.0 ∙ ends count q), subst NotBulk (sym f) tt)
+    by (Err why) q f k =
         let e = handed_failing rule o.toggle o.moved u.toggle (retired_before (number_of why) u y) (f.0 ∙ kd) (refused (number_of why) k) in
         let over : NotBulk o.next = subst NotBulk (sym f.1) tt in
         rw f.2 (e, over)
 
 -- A step refused with 15 or 16.
-held_refused : (rule : DeskRule) (u : BulkUnderWay) (y : Sample) (r : Run) (why : Refusal) (m buf : List ℕ) → kind_toggle r.request.kind ≡ u.toggle → ends_transfer (number_of why) ≡ false → Holds (bulk u) (Busy r)
-    → Told rule (bulk u) y (refuses (Busy r) why m buf)
+held_refused : (rule : DeskRule) (u : BulkUnderWay) (y : Sample) (r : Run) (why : Refusal) (m buf : List ℕ) → kind_toggle r.request.kind ≡ u.toggle → ends_transfer (number_of why) ≡ false → Holds (bulk u) (Some r)
+    → Told rule (bulk u) y (refuses (Some r) why m buf)
 held_refused rule u y r why m buf kd f h =
     let e = same_toggle r.request.kind ∙ kd in
     rw f (handed rule _ _ u.toggle e e, h)
@@ -325,10 +321,10 @@ long_parity st w buf m = go (ltb 0 st.inflight && full w st.retire) refl
 flip_more : (b : Bool) (r : ℕ) → flipped b (not (slot_of r)) ≡ flip_times b (r + 1)
 flip_more b r = ap (flipped b) (sym (slot_more r)) ∙ flips_slot b (r + 1)
 
-in_told : (rule : DeskRule) (b : Bool) (packets : ℕ) (s : SentTally) (t : Transfer) (y : Sample) (filling : Bool) (buf m log : List ℕ) → InHolds b packets s t
+in_told : (rule : DeskRule) (b : Bool) (packets : ℕ) (s : SentTally) (t : Option Run) (y : Sample) (filling : Bool) (buf m log : List ℕ) → InHolds b packets s t
     → Told rule (bulk (record { direction = In; toggle = b; packets = packets; tally = s })) y (step_of filling t y buf m log)
 in_told rule b packets s t y filling buf m log h =
-    subst (λ (t : Transfer). Told rule (bulk u) y (step_of filling t y buf m log)) (sym h.is)
+    subst (λ (t : Option Run). Told rule (bulk u) y (step_of filling t y buf m log)) (sym h.is)
     (by_busy (Told rule (bulk u) y) filling r y buf m log (held_refused rule u y r LentMemory m buf refl refl here) (held_refused rule u y r State m buf refl refl here)
     (λ f g l. acts_told rule u x (in_stage h.st) y buf m refl (goes_on comes) (ends comes) (ap (flipped b) h.at.turn ∙ flips_slot b s.retired) nine))
   where
@@ -341,7 +337,7 @@ in_told rule b packets s t y filling buf m log h =
     r : Run
     r = record { request = x; stage = in_stage h.st }
 
-    here : InHolds b packets s (Busy r)
+    here : InHolds b packets s (Some r)
     here = record { a = h.a; e = h.e; p = h.p; k = h.k; n = h.n; st = h.st; is = refl; many = h.many; at = h.at }
 
     o : Outcome
@@ -371,7 +367,7 @@ in_told rule b packets s t y filling buf m log h =
       at = subst (λ (j : ℕ). InAt h.a h.e h.p h.k b h.n st (tallied_by (quiet y) In j w s)) (sym h.many) at;
     }
 
-    ends : ComesTo → (count : ℕ) → o.answer ≡ Done count → o.toggle ≡ flip_times b (done_two In w s).retired
+    ends : ComesTo → (count : ℕ) → o.answer ≡ Ok (Done count) → o.toggle ≡ flip_times b (done_two In w s).retired
     ends (fails f g) count q = absurd_done o.answer count g q
     ends (goes st f at g) count q = absurd_done o.answer count g q
     ends (finishes f g) count q = g
@@ -408,10 +404,10 @@ out_comes : (a e p : ℕ) (k : TransferType) (b : Bool) (first : List ℕ) (st :
 unfolding acts
 out_comes a e p k b first st s h y buf m log = polled_comes a e p k b first st s h (record { call = record { sample = y; memory = m; log = log }; bytes = buf })
 
-out_told : (rule : DeskRule) (b : Bool) (packets : ℕ) (s : SentTally) (t : Transfer) (y : Sample) (filling : Bool) (buf m log : List ℕ) → OutHolds b packets s t
+out_told : (rule : DeskRule) (b : Bool) (packets : ℕ) (s : SentTally) (t : Option Run) (y : Sample) (filling : Bool) (buf m log : List ℕ) → OutHolds b packets s t
     → Told rule (bulk (record { direction = Out; toggle = b; packets = packets; tally = s })) y (step_of filling t y buf m log)
 out_told rule b packets s t y filling buf m log h =
-    subst (λ (t : Transfer). Told rule (bulk u) y (step_of filling t y buf m log)) (sym h.is)
+    subst (λ (t : Option Run). Told rule (bulk u) y (step_of filling t y buf m log)) (sym h.is)
     (by_busy (Told rule (bulk u) y) filling r y buf m log (held_refused rule u y r LentMemory m buf refl refl here) (held_refused rule u y r State m buf refl refl here)
     (λ f g l. acts_told rule u x (out_stage h.st) y buf m refl (goes_on comes) (ends comes) (ap (flipped b) h.at.stands.turn ∙ flips_slot b s.retired) (λ n z. absurd z)))
   where
@@ -424,7 +420,7 @@ out_told rule b packets s t y filling buf m log h =
     r : Run
     r = record { request = x; stage = out_stage h.st }
 
-    here : OutHolds b packets s (Busy r)
+    here : OutHolds b packets s (Some r)
     here = record { a = h.a; e = h.e; p = h.p; k = h.k; first = h.first; st = h.st; is = refl; many = h.many; at = h.at }
 
     o : Outcome
@@ -458,16 +454,16 @@ out_told rule b packets s t y filling buf m log h =
           (subst (At h.a h.e h.p h.k b h.first st) (tally_on packets_out w s (quiet y) (complete y) c) at);
     }
 
-    ends : ComesTo → (count : ℕ) → o.answer ≡ Done count → o.toggle ≡ flip_times b (done_two Out w s).retired
+    ends : ComesTo → (count : ℕ) → o.answer ≡ Ok (Done count) → o.toggle ≡ flip_times b (done_two Out w s).retired
     ends (fails_out c f g) count q = absurd_done o.answer count g q
     ends (goes_out c st f at g) count q = absurd_done o.answer count g q
     ends (finishes_out c f g i) count q = i ∙ ap (λ (j : SentTally). flip_times b j.retired) (tally_end packets_out w s (quiet y) (complete y) c)
 
 -- ---- a step with no bulk transfer under way
 
-stays_none : (x : Request) (t : Transfer) → NotBulkKind x.kind → StaysWith x t → NotBulk t
-stays_none x Idle h s = tt
-stays_none x (Busy r) h s = subst (λ (z : Request). NotBulkKind z.kind) (sym s) h
+stays_none : (x : Request) (t : Option Run) → NotBulkKind x.kind → StaysWith x t → NotBulk t
+stays_none x None h s = tt
+stays_none x (Some r) h s = subst (λ (z : Request). NotBulkKind z.kind) (sym s) h
 
 none_in : (k : Kind) → NotBulkKind k → toggle_in k ≡ false
 none_in (control c) h = refl
@@ -490,9 +486,9 @@ none_nine k (in_stage st) w buf m b v h z = by st.status z
     by true z = z.2 ∙ none_out k (first_one st w [] m).packets.parity h
     by false z = z.2 ∙ none_out k (first_one st w buf m).packets.parity h
 
-none_told : (rule : DeskRule) (t : Transfer) (y : Sample) (filling : Bool) (buf m log : List ℕ) → NotBulk t → Told rule none y (step_of filling t y buf m log)
-none_told rule Idle y filling buf m log h = by_idle (Told rule none y) filling y buf m log (handed rule false false false refl refl, tt) (handed rule false false false refl refl, tt)
-none_told rule (Busy r) y filling buf m log h =
+none_told : (rule : DeskRule) (t : Option Run) (y : Sample) (filling : Bool) (buf m log : List ℕ) → NotBulk t → Told rule none y (step_of filling t y buf m log)
+none_told rule None y filling buf m log h = by_idle (Told rule none y) filling y buf m log (handed rule false false false refl refl, tt) (handed rule false false false refl refl, tt)
+none_told rule (Some r) y filling buf m log h =
     by_busy (Told rule none y) filling r y buf m log (held_out, h) (held_out, h)
     (λ f g l.
     let fair = acts_fair x r.stage y buf m in
@@ -511,26 +507,26 @@ none_told rule (Busy r) y filling buf m log h =
     held_out : toggle_by_rule rule (toggle_in x.kind) (toggle_in x.kind) ≡ false
     held_out = handed rule (toggle_in x.kind) (toggle_in x.kind) false came came
 
-    first : (w : StepAnswer) → Fair (kind_toggle x.kind) w o.toggle o.next
+    first : (w : Result Step Refusal) → Fair (kind_toggle x.kind) w o.toggle o.next
         → Keeps buf x (parity_toggle x r.stage) (Nine x.kind r.stage y.buffers buf m) w o.buffer o.toggle o.moved o.next → o.toggle ≡ false
-    first (Waiting again) f k = f.0 ∙ sym (same_toggle x.kind) ∙ came
-    first (Done count) f k = none_done x.kind o.toggle h k.1
-    first (Refused why) f k = f.0 ∙ sym (same_toggle x.kind) ∙ came
+    first (Ok (Waiting again)) f k = f.0 ∙ sym (same_toggle x.kind) ∙ came
+    first (Ok (Done count)) f k = none_done x.kind o.toggle h k.1
+    first (Err why) f k = f.0 ∙ sym (same_toggle x.kind) ∙ came
 
-    second : (w : StepAnswer) → Fair (kind_toggle x.kind) w o.toggle o.next
+    second : (w : Result Step Refusal) → Fair (kind_toggle x.kind) w o.toggle o.next
         → Keeps buf x (parity_toggle x r.stage) (Nine x.kind r.stage y.buffers buf m) w o.buffer o.toggle o.moved o.next → o.moved ≡ false
-    second (Waiting again) f k = k.0 ∙ first (Waiting again) f k
-    second (Done count) f k = k.0 ∙ first (Done count) f k
-    second (Refused why) f (inl z) = z.1 ∙ none_out x.kind (stage_parity r.stage) h
-    second (Refused why) f (inr z) = none_nine x.kind r.stage y.buffers buf m o.buffer o.moved h z.0
+    second (Ok (Waiting again)) f k = k.0 ∙ first (Ok (Waiting again)) f k
+    second (Ok (Done count)) f k = k.0 ∙ first (Ok (Done count)) f k
+    second (Err why) f (inl z) = z.1 ∙ none_out x.kind (stage_parity r.stage) h
+    second (Err why) f (inr z) = none_nine x.kind r.stage y.buffers buf m o.buffer o.moved h z.0
 
-    over : (w : StepAnswer) → Fair (kind_toggle x.kind) w o.toggle o.next
+    over : (w : Result Step Refusal) → Fair (kind_toggle x.kind) w o.toggle o.next
         → Keeps buf x (parity_toggle x r.stage) (Nine x.kind r.stage y.buffers buf m) w o.buffer o.toggle o.moved o.next → NotBulk o.next
-    over (Waiting again) f k = stays_none x o.next h k.1
-    over (Done count) f k = subst NotBulk (sym f) tt
-    over (Refused why) f k = subst NotBulk (sym f.1) tt
+    over (Ok (Waiting again)) f k = stays_none x o.next h k.1
+    over (Ok (Done count)) f k = subst NotBulk (sym f) tt
+    over (Err why) f k = subst NotBulk (sym f.1) tt
 
-step_told : (rule : DeskRule) (u : UnderWay) (t : Transfer) (y : Sample) (filling : Bool) (buf m log : List ℕ) → Holds u t → Told rule u y (step_of filling t y buf m log)
+step_told : (rule : DeskRule) (u : UnderWay) (t : Option Run) (y : Sample) (filling : Bool) (buf m log : List ℕ) → Holds u t → Told rule u y (step_of filling t y buf m log)
 step_told rule none t y filling buf m log h = none_told rule t y filling buf m log h
 step_told rule (bulk u) t y filling buf m log h = by u.direction h
   where
@@ -544,15 +540,15 @@ abbrev Dropped : DeskRule → UnderWay → Cancelling → Type 0
 Dropped rule u o = CancelToggle rule u o.answer (toggle_by_rule rule o.toggle o.moved) × Holds (tells u cancel o.answer) o.next
 
 -- Of a bulk transfer whose stage has the parity of the packets retired.
-bulk_dropped : (rule : DeskRule) (u : BulkUnderWay) (r : Run) (parity v : Bool) → v ≡ true → Holds (bulk u) (Busy r) → flipped u.toggle parity ≡ flip_times u.toggle u.tally.retired
-    → Dropped rule (bulk u) (cancel_if v (Busy r) u.toggle (flipped u.toggle parity))
+bulk_dropped : (rule : DeskRule) (u : BulkUnderWay) (r : Run) (parity v : Bool) → v ≡ true → Holds (bulk u) (Some r) → flipped u.toggle parity ≡ flip_times u.toggle u.tally.retired
+    → Dropped rule (bulk u) (cancel_if v (Some r) u.toggle (flipped u.toggle parity))
 bulk_dropped rule u r parity true good h e = (handed_failing rule u.toggle (flipped u.toggle parity) u.toggle u.tally.retired refl e, tt)
 bulk_dropped rule u r parity false good h e = no (sym good)
 
-none_dropped : (rule : DeskRule) (t : Transfer) → NotBulk t → Dropped rule none (cancel_of t)
+none_dropped : (rule : DeskRule) (t : Option Run) → NotBulk t → Dropped rule none (cancel_of t)
 unfolding cancel_of
-none_dropped rule Idle h = (handed rule false false false refl refl, tt)
-none_dropped rule (Busy r) h = by (either_serves r)
+none_dropped rule None h = (handed rule false false false refl refl, tt)
+none_dropped rule (Some r) h = by (either_serves r)
   where
     t : Bool
     t = toggle_in r.request.kind
@@ -560,29 +556,29 @@ none_dropped rule (Busy r) h = by (either_serves r)
     came : t ≡ false
     came = none_in r.request.kind h
 
-    by : (v : Bool) → Dropped rule none (cancel_if v (Busy r) t (toggle_out r.request.kind (stage_parity r.stage)))
+    by : (v : Bool) → Dropped rule none (cancel_if v (Some r) t (toggle_out r.request.kind (stage_parity r.stage)))
     by true = (handed rule t (toggle_out r.request.kind (stage_parity r.stage)) false came (none_out r.request.kind (stage_parity r.stage) h), tt)
     by false = (handed rule t t false came came, h)
 
-in_dropped : (rule : DeskRule) (b : Bool) (packets : ℕ) (s : SentTally) (t : Transfer) → well_formed t ≡ true → InHolds b packets s t → Dropped rule (bulk (record { direction = In; toggle = b; packets = packets; tally = s })) (cancel_of t)
+in_dropped : (rule : DeskRule) (b : Bool) (packets : ℕ) (s : SentTally) (t : Option Run) → well_formed t ≡ true → InHolds b packets s t → Dropped rule (bulk (record { direction = In; toggle = b; packets = packets; tally = s })) (cancel_of t)
 unfolding cancel_of
 in_dropped rule b packets s t well h =
     let r : Run = record { request = in_x h.a h.e h.p h.k b h.n; stage = in_stage h.st } in
     let v : BulkUnderWay = record { direction = In; toggle = b; packets = packets; tally = s } in
-    let here : InHolds b packets s (Busy r) = record { a = h.a; e = h.e; p = h.p; k = h.k; n = h.n; st = h.st; is = refl; many = h.many; at = h.at } in
-    subst (λ (t : Transfer). Dropped rule (bulk v) (cancel_of t)) (sym h.is)
+    let here : InHolds b packets s (Some r) = record { a = h.a; e = h.e; p = h.p; k = h.k; n = h.n; st = h.st; is = refl; many = h.many; at = h.at } in
+    subst (λ (t : Option Run). Dropped rule (bulk v) (cancel_of t)) (sym h.is)
     (bulk_dropped rule v r h.st.retire (either_serves r) (sym (ap well_formed h.is) ∙ well) here (ap (flipped b) h.at.turn ∙ flips_slot b s.retired))
 
-out_dropped : (rule : DeskRule) (b : Bool) (packets : ℕ) (s : SentTally) (t : Transfer) → well_formed t ≡ true → OutHolds b packets s t → Dropped rule (bulk (record { direction = Out; toggle = b; packets = packets; tally = s })) (cancel_of t)
+out_dropped : (rule : DeskRule) (b : Bool) (packets : ℕ) (s : SentTally) (t : Option Run) → well_formed t ≡ true → OutHolds b packets s t → Dropped rule (bulk (record { direction = Out; toggle = b; packets = packets; tally = s })) (cancel_of t)
 unfolding cancel_of
 out_dropped rule b packets s t well h =
     let r : Run = record { request = bulk_request Out h.a h.e h.p b (length h.first); stage = out_stage h.st } in
     let v : BulkUnderWay = record { direction = Out; toggle = b; packets = packets; tally = s } in
-    let here : OutHolds b packets s (Busy r) = record { a = h.a; e = h.e; p = h.p; k = h.k; first = h.first; st = h.st; is = refl; many = h.many; at = h.at } in
-    subst (λ (t : Transfer). Dropped rule (bulk v) (cancel_of t)) (sym h.is)
+    let here : OutHolds b packets s (Some r) = record { a = h.a; e = h.e; p = h.p; k = h.k; first = h.first; st = h.st; is = refl; many = h.many; at = h.at } in
+    subst (λ (t : Option Run). Dropped rule (bulk v) (cancel_of t)) (sym h.is)
     (bulk_dropped rule v r h.st.retire (either_serves r) (sym (ap well_formed h.is) ∙ well) here (ap (flipped b) h.at.stands.turn ∙ flips_slot b s.retired))
 
-cancel_told : (rule : DeskRule) (u : UnderWay) (t : Transfer) → well_formed t ≡ true → Holds u t → Dropped rule u (cancel_of t)
+cancel_told : (rule : DeskRule) (u : UnderWay) (t : Option Run) → well_formed t ≡ true → Holds u t → Dropped rule u (cancel_of t)
 cancel_told rule none t well h = none_dropped rule t h
 cancel_told rule (bulk u) t well h = by u.direction h
   where
@@ -595,11 +591,11 @@ cancel_told rule (bulk u) t well h = by u.direction h
 abbrev Opened : UnderWay → (x : Begin) (buf m log : List ℕ) → Beginning → Type 0
 Opened u x buf m log o = Holds (tells u (begin x buf m log) o.answer) o.next
 
-begin_or_lem : (u : UnderWay) (x : Begin) (buf m log : List ℕ) (t : Transfer) (w : OptionRefusal) (o : Beginning) → Holds u t → (w ≡ NoRefusal → Opened u x buf m log o) → Opened u x buf m log (begin_or w t m o)
-begin_or_lem u x buf m log t (SomeRefusal why) o h f = h
-begin_or_lem u x buf m log t NoRefusal o h f = f refl
+begin_or_lem : (u : UnderWay) (x : Begin) (buf m log : List ℕ) (t : Option Run) (w : Result (Unit {0}) Refusal) (o : Beginning) → Holds u t → (w ≡ Ok tt → Opened u x buf m log o) → Opened u x buf m log (begin_or w t m o)
+begin_or_lem u x buf m log t (Err why) o h f = h
+begin_or_lem u x buf m log t (Ok tt) o h f = f refl
 
-begin_told : (u : UnderWay) (t : Transfer) (x : Begin) (buf m log : List ℕ) → Holds u t → Opened u x buf m log (beginning t x buf m log)
+begin_told : (u : UnderWay) (t : Option Run) (x : Begin) (buf m log : List ℕ) → Holds u t → Opened u x buf m log (beginning t x buf m log)
 unfolding begin_control_of begin_bulk_in_of begin_bulk_out_of
 begin_told u t (control_begin a z p s ph) buf m log h =
     begin_or_lem u (control_begin a z p s ph) buf m log t (begin_refusal (lent_fits m log) (is_idle t) (fields_refusal (address_good a) true (size_good p) true)) (begins_control a z p s ph (length buf) m) h (λ q. tt)
@@ -640,7 +636,7 @@ begin_told u t (bulk_begin Out a e p k b) buf m log h =
       st = (start_out (target_of x) k false 0 (length buf) buf m).stage;
       is = refl;
       many = refl;
-      at = starts_out t a e p k b buf m log (ap (λ (v : OptionRefusal). (begin_or v t m (begins_bulk_out x e k buf m)).answer) q) sizes.0 sizes.1 good.few;
+      at = starts_out t a e p k b buf m log (ap (λ (v : Result (Unit {0}) Refusal). (begin_or v t m (begins_bulk_out x e k buf m)).answer) q) sizes.0 sizes.1 good.few;
     })
 
 -- ---- every list of calls
@@ -656,7 +652,7 @@ call_told (poll_pipe n y m log) d u well h = (tt, h)
 call_told (interrupt ints status log) d u well h = (tt, h)
 call_told (detect sie log) d u well h = (tt, h)
 
-begin_well : (t : Transfer) (x : Begin) (buf m log : List ℕ) → well_formed t ≡ true → well_formed (beginning t x buf m log).next ≡ true
+begin_well : (t : Option Run) (x : Begin) (buf m log : List ℕ) → well_formed t ≡ true → well_formed (beginning t x buf m log).next ≡ true
 begin_well t (control_begin a z p s ph) buf m log h = begin_control_well t a z p s ph buf m log h
 begin_well t (bulk_begin In a e p k b) buf m log h = begin_bulk_in_well t a e p k b buf m log h
 begin_well t (bulk_begin Out a e p k b) buf m log h = begin_bulk_out_well t a e p k b buf m log h

@@ -1,4 +1,5 @@
 -- Whom the interrupt routine wakes. Assumes nothing.
+use Rattle.std.specs.Prelude.{Err, Ok}
 use mathlib.Core.Path.{◌≡◌, refl, ap, sym, subst, ◌∙◌}
 use mathlib.Core.Bool.{Bool, true, false, or-false}
 use mathlib.Core.List.{List, []}
@@ -13,7 +14,6 @@ use Rattle.transfers.specs.declared.host_controller.TransferExtras.{TransferExtr
 use Rattle.transfers.specs.declared.driver.Driver.{Driver}
 use Rattle.transfers.specs.declared.refusal.Refusal.{Refusal}
 use Rattle.transfers.specs.declared.irq.Wake.{Wake}
-use Rattle.transfers.specs.declared.irq.IrqAnswer.TheVariants.{Wake as IrqWake, Refused as IrqRefused}
 use Rattle.transfers.specs.Reply.{Reply, result, number, irq_reply, open_reply}
 use Rattle.transfers.specs.Memory.{log_fits}
 use Rattle.transfers.specs.Registers.{bit}
@@ -39,7 +39,7 @@ wake_is : (ints status : ℕ) (log : List ℕ) (w : Wake) → IrqAnswers ints st
 unfolding waking
 wake_is ints status log w = go (log_fits log)
   where
-    go : (l : Bool) → (waking_if l ints status).answer ≡ IrqWake w → w ≡ record { pipes = woken_pipes ints status; detect = bit 0 ints }
+    go : (l : Bool) → (waking_if l ints status).answer ≡ Ok w → w ≡ record { pipes = woken_pipes ints status; detect = bit 0 ints }
     go false h = absurd (let z : ◌≡◌ {A = ℕ} 0 1 = cc in omega arith)
     go true h = cc
 
@@ -60,7 +60,7 @@ woken_by ints status = record {
 answered : (ints status : ℕ) (log : List ℕ) (w : Wake) → IrqAnswers ints status log w → WokenBy ints status w
 answered ints status log w h = subst (WokenBy ints status) (sym (wake_is ints status log w h)) (woken_by ints status)
 
-unrefused : (ints status : ℕ) (log : List ℕ) (why : Refusal) → 192 ≤ length log → (waking ints status log).answer ≡ IrqRefused why → ⊥
+unrefused : (ints status : ℕ) (log : List ℕ) (why : Refusal) → 192 ≤ length log → (waking ints status log).answer ≡ Err why → ⊥
 unrefused ints status log why fits said =
     let h = sym (ap (λ (e : Waking). e.answer) (waking_fits ints status log fits)) ∙ said in
     let z : ◌≡◌ {A = ℕ} 0 1 = cc in

@@ -1,4 +1,5 @@
 -- Every call writes at most 18 registers, all of them in the list. Assumes nothing.
+use Rattle.std.specs.Prelude.{Err, None, Ok, Option, Result, Some}
 use mathlib.Core.Path.{◌≡◌, refl, ap}
 use mathlib.Core.Logic.{◌⊎◌, inl, inr, ⊎_elim}
 use mathlib.Core.Bool.{Bool, true, false, cond}
@@ -13,13 +14,9 @@ use Rattle.pool.specs.declared.pipe.PipeNumber.{PipeNumber}
 use Rattle.cutting.specs.declared.transfer_type.TransferType.{TransferType}
 use Rattle.cutting.specs.declared.transfer_type.TransferType.TheVariants.{FixedSize}
 use Rattle.cutting.specs.declared.packetiser.Arm.{Arm}
-use Rattle.cutting.specs.declared.packetiser.OptionArm.{OptionArm}
-use Rattle.cutting.specs.declared.packetiser.OptionArm.TheVariants.{Some, None}
 use Rattle.cutting.specs.declared.packetiser.InPacketiser.{InPacketiser}
 use Rattle.cutting.specs.declared.packetiser.OutCounters.{OutCounters}
 use Rattle.cutting.specs.declared.depacketiser.InDepacketiser.{InDepacketiser}
-use Rattle.cutting.specs.declared.packetiser.Next.{Next}
-use Rattle.cutting.specs.declared.packetiser.Next.TheVariants.{Packet, End}
 use Rattle.cutting.specs.Counters.{next_of, in_gives, out_gives, in_start_of, out_start, in_next, out_next}
 use Rattle.transfers.specs.declared.host_controller.DataPhase.{DataPhase}
 use Rattle.transfers.specs.declared.host_controller.DataPhase.TheVariants.{In as phase_in, Out as phase_out, None as phase_none}
@@ -28,17 +25,11 @@ use Rattle.transfers.specs.declared.wire.SetupPacket.{SetupPacket}
 use Rattle.transfers.specs.declared.wire.Direction.{Direction}
 use Rattle.transfers.specs.declared.wire.Direction.TheVariants.{In, Out}
 use Rattle.transfers.specs.declared.writes.Target.{Target}
-use Rattle.transfers.specs.declared.refusal.OptionRefusal.{OptionRefusal}
-use Rattle.transfers.specs.declared.refusal.OptionRefusal.TheVariants.{Some as refused, None as accepted}
 use Rattle.transfers.specs.declared.sample.Sample.{Sample}
-use Rattle.transfers.specs.declared.sample.Poll.{Poll}
-use Rattle.transfers.specs.declared.sample.Poll.TheVariants.{Pending, Ready}
 use Rattle.transfers.specs.declared.sample.Found.{Found}
 use Rattle.transfers.specs.declared.sample.Found.TheVariants.{Complete, Failed, Neither}
 use Rattle.transfers.specs.declared.pipes.PipeSample.{PipeSample}
 use Rattle.transfers.specs.declared.driver.Driver.{Driver}
-use Rattle.transfers.specs.declared.driver.Transfer.{Transfer}
-use Rattle.transfers.specs.declared.driver.Transfer.TheVariants.{Idle, Busy}
 use Rattle.transfers.specs.declared.driver.Run.{Run}
 use Rattle.transfers.specs.declared.driver.Request.{Request}
 use Rattle.transfers.specs.declared.driver.Kind.{Kind}
@@ -70,6 +61,7 @@ use Rattle.rules.specs.Writes.{Register, is_setup_packet_low, is_setup_packet_hi
 use Rattle.rules.proofs.Lists.{every_append}
 use Rattle.rules.proofs.Spent.{in_spent, out_spent}
 use Rattle.rules.proofs.Outside.{own_power, enables_out, setup_out, towards_out, slot_out, available_out}
+use Rattle.transfers.specs.declared.refusal.Refusal.{Refusal}
 
 -- ---- lists of writes
 
@@ -168,7 +160,7 @@ setup_ok s a x = then {j = 5} {k = 4} {a = setup_words s} {b = setup_start a x}
 
 -- ---- arming
 
-in_armed_ok : (o : OptionArm) (c : InPacketiser) (k : ℕ) → ((a : Arm) → o ≡ Some a → a.length ≤ 64) → L 3 (in_armed o c k).writes
+in_armed_ok : (o : Option Arm) (c : InPacketiser) (k : ℕ) → ((a : Arm) → o ≡ Some a → a.length ≤ 64) → L 3 (in_armed o c k).writes
 in_armed_ok None c k h = nothing 3
 in_armed_ok (Some a) c k h = arm_ok false a (h a refl)
 
@@ -184,7 +176,7 @@ in_two_ok : (w : ℕ) (c : InPacketiser) (k : ℕ) → L 6 (in_arm_two w c k).wr
 unfolding in_arm_two
 in_two_ok w c k = let g = in_arm w c k in then (in_arm_ok w c k) (in_arm_ok w g.packets g.inflight)
 
-out_armed_ok : (o : OptionArm) (c : OutCounters) (k off : ℕ) (buf m : List ℕ) → ((a : Arm) → o ≡ Some a → a.length ≤ 64) → L 3 (out_armed o c k off buf m).writes
+out_armed_ok : (o : Option Arm) (c : OutCounters) (k off : ℕ) (buf m : List ℕ) → ((a : Arm) → o ≡ Some a → a.length ≤ 64) → L 3 (out_armed o c k off buf m).writes
 out_armed_ok None c k off buf m h = nothing 3
 out_armed_ok (Some a) c k off buf m h = arm_ok true a (h a refl)
 
@@ -201,11 +193,11 @@ unfolding out_arm_two
 out_two_ok w c k buf m = let g = out_arm w c k buf m in then (out_arm_ok w c k buf m) (out_arm_ok w g.packets g.inflight buf g.memory)
 
 -- A status stage has one packet, so only one slot is armed: the first arming of nothing arms none, or leaves none after it.
-in_first : (x : Next) (c : InPacketiser) (k : ℕ) → c.remain ≡ 0
+in_first : (x : Option (ℕ × Bool)) (c : InPacketiser) (k : ℕ) → c.remain ≡ 0
     → ((in_armed (in_gives x c).arm (in_gives x c).rest k).writes ≡ [])
     ⊎ (((in_armed (in_gives x c).arm (in_gives x c).rest k).packets.remain ≡ 0) × ((in_armed (in_gives x c).arm (in_gives x c).rest k).packets.zlp ≡ false))
-in_first End c k e = inl refl
-in_first (Packet n last) c k e = inr (omega arith, ap (λ (r : ℕ). cond (eqb r 0) false c.zlp) e)
+in_first None c k e = inl refl
+in_first (Some (n, last)) c k e = inr (omega arith, ap (λ (r : ℕ). cond (eqb r 0) false c.zlp) e)
 
 in_status_few : (p : ℕ) (b : Bool) → length (in_arm_two 0 (in_start_of FixedSize p b 0) 0).writes ≤ 3
 unfolding in_arm_two in_arm in_next
@@ -219,11 +211,11 @@ in_status_few p b =
     (λ (e : (g.packets.remain ≡ 0) × (g.packets.zlp ≡ false)). let u = ap (λ (i : InArming). length i.writes) (in_spent 0 g.packets g.inflight e.0 e.1) in omega (arith, u, x, z))
     (in_first (next_of 0 p true) c 0 refl)
 
-out_first : (x : Next) (c : OutCounters) (k off : ℕ) (buf m : List ℕ) → c.remain ≡ 0
+out_first : (x : Option (ℕ × Bool)) (c : OutCounters) (k off : ℕ) (buf m : List ℕ) → c.remain ≡ 0
     → ((out_armed (out_gives x c).arm (out_gives x c).rest k off buf m).writes ≡ [])
     ⊎ (((out_armed (out_gives x c).arm (out_gives x c).rest k off buf m).packets.remain ≡ 0) × ((out_armed (out_gives x c).arm (out_gives x c).rest k off buf m).packets.zlp ≡ false))
-out_first End c k off buf m e = inl refl
-out_first (Packet n last) c k off buf m e = inr (omega arith, ap (λ (r : ℕ). cond (eqb r 0) false c.zlp) e)
+out_first None c k off buf m e = inl refl
+out_first (Some (n, last)) c k off buf m e = inr (omega arith, ap (λ (r : ℕ). cond (eqb r 0) false c.zlp) e)
 
 out_status_few : (p : ℕ) (b : Bool) (m : List ℕ) → length (out_arm_two 0 (out_start FixedSize p b 0) 0 [] m).writes ≤ 3
 unfolding out_arm_two out_arm out_next
@@ -345,9 +337,9 @@ stage_ok f x setup_stage w buf m = setup_step_ok f x buf m
 stage_ok f x (in_stage st) w buf m = keeping_ok st.status buf (in_step f x st w (lent st.status buf) m) (in_step_ok f x st w (lent st.status buf) m)
 stage_ok f x (out_stage st) w buf m = keeping_ok st.status buf (out_step f x st w (lent st.status buf) m) (out_step_ok f x st w (lent st.status buf) m)
 
-polls_ok : (p : Poll) (x : Request) (st : Stage) (w : ℕ) (buf m : List ℕ) → L 18 (polls p x st w buf m).writes
-polls_ok Pending x st w buf m = record { few = omega arith; only = (status_ok _, (inte_ok _ _ refl, tt)) }
-polls_ok (Ready f) x st w buf m = then {j = 1} {k = 17} polled_ok (stage_ok f x st w buf m)
+polls_ok : (p : Option Found) (x : Request) (st : Stage) (w : ℕ) (buf m : List ℕ) → L 18 (polls p x st w buf m).writes
+polls_ok None x st w buf m = record { few = omega arith; only = (status_ok _, (inte_ok _ _ refl, tt)) }
+polls_ok (Some f) x st w buf m = then {j = 1} {k = 17} polled_ok (stage_ok f x st w buf m)
 
 step_if_ok : (a b : Bool) (r : Run) (s : Sample) (buf m : List ℕ) → L 18 (step_if a b r s buf m).writes
 unfolding acts
@@ -355,37 +347,37 @@ step_if_ok false b r s buf m = nothing 18
 step_if_ok true false r s buf m = nothing 18
 step_if_ok true true r s buf m = polls_ok (classify s.status s.intr) r.request r.stage s.buffers buf m
 
-step_lent_ok : (l f : Bool) (t : Transfer) (s : Sample) (buf m : List ℕ) → L 18 (step_lent l f t s buf m).writes
+step_lent_ok : (l f : Bool) (t : Option Run) (s : Sample) (buf m : List ℕ) → L 18 (step_lent l f t s buf m).writes
 step_lent_ok false f t s buf m = nothing 18
-step_lent_ok true f Idle s buf m = nothing 18
-step_lent_ok true f (Busy r) s buf m = step_if_ok (may_step f r) (eqb (length buf) r.request.length) r s buf m
+step_lent_ok true f None s buf m = nothing 18
+step_lent_ok true f (Some r) s buf m = step_if_ok (may_step f r) (eqb (length buf) r.request.length) r s buf m
 
 listed : {k : ℕ} {ws : List Write} → k ≤ 18 → L k ws → Listed ws
 listed {k} {ws} h p = record { few = let x = p.few in omega arith; only = p.only }
 
-step_listed : (f : Bool) (t : Transfer) (s : Sample) (buf m log : List ℕ) → Listed (step_of f t s buf m log).writes
+step_listed : (f : Bool) (t : Option Run) (s : Sample) (buf m log : List ℕ) → Listed (step_of f t s buf m log).writes
 unfolding step_of
 step_listed f t s buf m log = listed (omega arith) (step_lent_ok (lent_fits m log) f t s buf m)
 
 -- ---- begins
 
-begin_or_ok : (r : OptionRefusal) (t : Transfer) (m : List ℕ) (b : Beginning) → L 17 b.writes → L 17 (begin_or r t m b).writes
-begin_or_ok (refused e) t m b h = nothing 17
-begin_or_ok accepted t m b h = h
+begin_or_ok : (r : Result (Unit {0}) Refusal) (t : Option Run) (m : List ℕ) (b : Beginning) → L 17 b.writes → L 17 (begin_or r t m b).writes
+begin_or_ok (Err e) t m b h = nothing 17
+begin_or_ok (Ok tt) t m b h = h
 
-begin_control_listed : (t : Transfer) (a : ℕ) (x : TransferExtras) (p : ℕ) (s : SetupPacket) (ph : DataPhase) (buf m log : List ℕ) → Listed (begin_control_of t a x p s ph buf m log).writes
+begin_control_listed : (t : Option Run) (a : ℕ) (x : TransferExtras) (p : ℕ) (s : SetupPacket) (ph : DataPhase) (buf m log : List ℕ) → Listed (begin_control_of t a x p s ph buf m log).writes
 unfolding begin_control_of
 begin_control_listed t a x p s ph buf m log = listed {k = 17} (omega arith)
     (begin_or_ok (begin_refusal (lent_fits m log) (is_idle t) (fields_refusal (address_good a) true (size_good p) true)) t m (begins_control a x p s ph (length buf) m) (more {j = 9} (omega arith) (setup_ok s a x)))
 
-begin_bulk_in_listed : (t : Transfer) (a e p : ℕ) (k : TransferType) (b : Bool) (buf m log : List ℕ) → Listed (begin_bulk_in_of t a e p k b buf m log).writes
+begin_bulk_in_listed : (t : Option Run) (a e p : ℕ) (k : TransferType) (b : Bool) (buf m log : List ℕ) → Listed (begin_bulk_in_of t a e p k b buf m log).writes
 unfolding begin_bulk_in_of
 begin_bulk_in_listed t a e p k b buf m log =
     let x = bulk_request In a e p b (length buf) in
     listed {k = 17} (omega arith)
     (begin_or_ok (begin_refusal (lent_fits m log) (is_idle t) (fields_refusal (address_good a) (endpoint_good e) (size_good p) (leb (length buf) 0xFFFF))) t m (begins_bulk_in x k m) (start_in_ok (target_of x) k false (length buf)))
 
-begin_bulk_out_listed : (t : Transfer) (a e p : ℕ) (k : TransferType) (b : Bool) (buf m log : List ℕ) → Listed (begin_bulk_out_of t a e p k b buf m log).writes
+begin_bulk_out_listed : (t : Option Run) (a e p : ℕ) (k : TransferType) (b : Bool) (buf m log : List ℕ) → Listed (begin_bulk_out_of t a e p k b buf m log).writes
 unfolding begin_bulk_out_of
 begin_bulk_out_listed t a e p k b buf m log =
     let x = bulk_request Out a e p b (length buf) in

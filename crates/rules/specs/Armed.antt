@@ -1,5 +1,5 @@
 -- Which slots the logs arm, read from EP_BUFFER_CONTROL 0 alone: a write that sets a slot's AVAILABLE arms it with what its half then shows.
-use Rattle.std.specs.Prelude.{◌≡◌, Bool, true, false, cond, ◌&&◌, List, [], ◌∷◌, ◌++◌, map, ℕ, ◌≤◌, eqb, length, take}
+use Rattle.std.specs.Prelude.{◌≡◌, Bool, true, false, cond, ◌&&◌, List, [], ◌∷◌, ◌++◌, map, ℕ, ◌≤◌, eqb, length, take, None, Ok, Option}
 use Rattle.cutting.specs.declared.transfer_type.TransferType.{TransferType}
 use Rattle.cutting.specs.declared.transfer_type.TransferType.TheVariants.{FixedSize}
 use Rattle.cutting.specs.Cut.{Packet, packet, in_cut_of}
@@ -8,15 +8,13 @@ use Rattle.transfers.specs.declared.host_controller.DataPhase.{DataPhase}
 use Rattle.transfers.specs.declared.host_controller.DataPhase.TheVariants.{In as phase_in}
 use Rattle.transfers.specs.declared.host_controller.TransferExtras.{TransferExtras}
 use Rattle.transfers.specs.declared.wire.SetupPacket.{SetupPacket}
-use Rattle.transfers.specs.declared.answers.BeginAnswer.TheVariants.{Begun}
-use Rattle.transfers.specs.declared.answers.StepAnswer.TheVariants.{Done}
 use Rattle.transfers.specs.declared.sample.Sample.{Sample}
-use Rattle.transfers.specs.declared.driver.Transfer.{Transfer}
-use Rattle.transfers.specs.declared.driver.Transfer.TheVariants.{Idle}
 use Rattle.transfers.specs.Log.{Write, wr, masked}
 use Rattle.transfers.specs.Calls.{step_of, begin_bulk_in_of, begin_control_of}
 use Rattle.rules.specs.Fields.{BufferControl, read_buffer_control}
 use Rattle.rules.specs.Received.{ends_stage, StepCall, tallied, tally_start, ControlTally, in_setup, in_data, in_status, control_tally, Running, step_by, step_in, after_step, after_steps}
+use Rattle.transfers.specs.declared.answers.Step.TheVariants.{Done}
+use Rattle.transfers.specs.declared.driver.Run.{Run}
 
 -- A slot, and what its half shows.
 pub record ArmedSlot : Type 0 where
@@ -41,7 +39,7 @@ armings old (wr r m v ∷ ws) = arms_both (eqb 0x5010_0080 r) m v (masked old m 
 
 -- In a stage that goes on a step arms only slots whose AVAILABLE its sample shows clear: IN and OUT, on any state and whatever is lent.
 pub record ArmsFree : Type 0 where
-  pub step : (filling : Bool) (t : Transfer) (s : Sample) (buf m log : List ℕ) (old : ℕ)
+  pub step : (filling : Bool) (t : Option Run) (s : Sample) (buf m log : List ℕ) (old : ℕ)
       → ends_stage s ≡ false → All (λ (a : ArmedSlot). (read_buffer_control s.buffers a.slot).AVAILABLE ≡ false) (armings old (step_of filling t s buf m log).writes)
 
 -- ---- from begin to done
@@ -68,32 +66,32 @@ slots_in (a ∷ l) = cond a.shows.FULL (slots_in l) (a ∷ slots_in l)
 
 -- The slots that the logs of an IN begin and of every list of steps arm are the first of the cutting, as many as the samples tell; none of these is FULL. The step that answers done arms none.
 pub record ArmsAsCut : Type 0 where
-  pub bulk : (t : Transfer) (a e p : ℕ) (k : TransferType) (b : Bool) (lent m log : List ℕ) (ys : List StepCall) (old : ℕ)
-      → (begin_bulk_in_of t a e p k b lent m log).answer ≡ Begun
+  pub bulk : (t : Option Run) (a e p : ℕ) (k : TransferType) (b : Bool) (lent m log : List ℕ) (ys : List StepCall) (old : ℕ)
+      → (begin_bulk_in_of t a e p k b lent m log).answer ≡ Ok tt
       → let h : Running = record { transfer = (begin_bulk_in_of t a e p k b lent m log).next; buffer = lent } in
       let slots = in_cut_of k p b (length lent) in
-      ((after_steps true h ys).transfer ≡ Idle → ⊥)
+      ((after_steps true h ys).transfer ≡ None → ⊥)
       → armings old ((begin_bulk_in_of t a e p k b lent m log).writes ++ writes_of true h ys) ≡ map (shown false) (take (tallied (length slots) (tally_start (length slots)) ys).armed slots)
-  pub bulk_done : (t : Transfer) (a e p : ℕ) (k : TransferType) (b : Bool) (lent m log : List ℕ) (ys : List StepCall) (y : StepCall) (count old : ℕ)
-      → (begin_bulk_in_of t a e p k b lent m log).answer ≡ Begun
+  pub bulk_done : (t : Option Run) (a e p : ℕ) (k : TransferType) (b : Bool) (lent m log : List ℕ) (ys : List StepCall) (y : StepCall) (count old : ℕ)
+      → (begin_bulk_in_of t a e p k b lent m log).answer ≡ Ok tt
       → let h = after_steps true (record { transfer = (begin_bulk_in_of t a e p k b lent m log).next; buffer = lent }) ys in
-      (step_in h y).answer ≡ Done count → armings old (step_in h y).writes ≡ []
-  pub control : (t : Transfer) (a : ℕ) (x : TransferExtras) (p : ℕ) (s : SetupPacket) (lent m log : List ℕ) (ys : List StepCall) (old : ℕ)
+      (step_in h y).answer ≡ Ok (Done count) → armings old (step_in h y).writes ≡ []
+  pub control : (t : Option Run) (a : ℕ) (x : TransferExtras) (p : ℕ) (s : SetupPacket) (lent m log : List ℕ) (ys : List StepCall) (old : ℕ)
       → s.wLength ≤ 0xFFFF
-      → (begin_control_of t a x p s phase_in lent m log).answer ≡ Begun
+      → (begin_control_of t a x p s phase_in lent m log).answer ≡ Ok tt
       → let h : Running = record { transfer = (begin_control_of t a x p s phase_in lent m log).next; buffer = lent } in
       let slots = in_cut_of FixedSize p true s.wLength in
-      ((after_steps true h ys).transfer ≡ Idle → ⊥)
+      ((after_steps true h ys).transfer ≡ None → ⊥)
       → armings old ((begin_control_of t a x p s phase_in lent m log).writes ++ writes_of true h ys) ≡ control_armed slots (control_tally (length slots) in_setup ys)
-  pub control_done : (t : Transfer) (a : ℕ) (x : TransferExtras) (p : ℕ) (s : SetupPacket) (lent m log : List ℕ) (ys : List StepCall) (y : StepCall) (count old : ℕ)
+  pub control_done : (t : Option Run) (a : ℕ) (x : TransferExtras) (p : ℕ) (s : SetupPacket) (lent m log : List ℕ) (ys : List StepCall) (y : StepCall) (count old : ℕ)
       → s.wLength ≤ 0xFFFF
-      → (begin_control_of t a x p s phase_in lent m log).answer ≡ Begun
+      → (begin_control_of t a x p s phase_in lent m log).answer ≡ Ok tt
       → let h = after_steps true (record { transfer = (begin_control_of t a x p s phase_in lent m log).next; buffer = lent }) ys in
-      (step_in h y).answer ≡ Done count → armings old (step_in h y).writes ≡ []
+      (step_in h y).answer ≡ Ok (Done count) → armings old (step_in h y).writes ≡ []
   -- A control Out or None that answers done has armed one slot IN, its status: slot 0, DATA1, marked, of length p.
-  pub status : (filling : Bool) (t : Transfer) (a : ℕ) (x : TransferExtras) (p : ℕ) (s : SetupPacket) (ph : DataPhase) (lent m log : List ℕ) (ys : List StepCall) (y : StepCall) (count old : ℕ)
+  pub status : (filling : Bool) (t : Option Run) (a : ℕ) (x : TransferExtras) (p : ℕ) (s : SetupPacket) (ph : DataPhase) (lent m log : List ℕ) (ys : List StepCall) (y : StepCall) (count old : ℕ)
       → (ph ≡ phase_in → ⊥)
-      → (begin_control_of t a x p s ph lent m log).answer ≡ Begun
+      → (begin_control_of t a x p s ph lent m log).answer ≡ Ok tt
       → let h : Running = record { transfer = (begin_control_of t a x p s ph lent m log).next; buffer = lent } in
-      (step_by filling (after_steps filling h ys) y).answer ≡ Done count
+      (step_by filling (after_steps filling h ys) y).answer ≡ Ok (Done count)
       → slots_in (armings old ((begin_control_of t a x p s ph lent m log).writes ++ writes_of filling h (ys ++ (y ∷ [])))) ≡ shown false (packet false true true p) ∷ []

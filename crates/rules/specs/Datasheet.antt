@@ -1,5 +1,5 @@
 -- What the driver writes decodes, by the datasheet's fields, to the packet, the endpoint and the pipe meant.
-use Rattle.std.specs.Prelude.{◌≡◌, Bool, true, false, not, cond, List, [], ◌∷◌, ℕ, ◌+◌, ◌*◌, ◌≤◌, ◌<◌, min, eqb, leb, length}
+use Rattle.std.specs.Prelude.{◌≡◌, Bool, true, false, not, cond, List, [], ◌∷◌, ℕ, ◌+◌, ◌*◌, ◌≤◌, ◌<◌, min, eqb, leb, length, Ok, Option}
 use Rattle.pool.specs.declared.pipe.PipeNumber.{PipeNumber}
 use Rattle.cutting.specs.declared.transfer_type.TransferType.{TransferType}
 use Rattle.cutting.specs.declared.packetiser.Arm.{Arm}
@@ -10,12 +10,8 @@ use Rattle.transfers.specs.declared.wire.SetupPacket.{SetupPacket}
 use Rattle.transfers.specs.declared.wire.Direction.{Direction}
 use Rattle.transfers.specs.declared.wire.Direction.TheVariants.{In, Out}
 use Rattle.transfers.specs.declared.writes.Target.{Target}
-use Rattle.transfers.specs.declared.answers.BeginAnswer.TheVariants.{Begun}
 use Rattle.transfers.specs.declared.pipes.PipeSample.{PipeSample}
-use Rattle.transfers.specs.declared.pipes.OpenAnswer.TheVariants.{Pipe as Opened}
-use Rattle.transfers.specs.declared.pipes.PollAnswer.TheVariants.{Packet as PolledPacket}
 use Rattle.transfers.specs.declared.driver.Driver.{Driver}
-use Rattle.transfers.specs.declared.driver.Transfer.{Transfer}
 use Rattle.transfers.specs.Log.{Write, wr}
 use Rattle.transfers.specs.Registers.{field}
 use Rattle.transfers.specs.Writes.{head_writes, arm_writes, go_writes}
@@ -23,6 +19,8 @@ use Rattle.transfers.specs.Calls.{begin_control_of, begin_bulk_in_of, begin_bulk
 use Rattle.transfers.specs.Pipes.{opening, polling}
 use Rattle.transfers.specs.Isolation.{held_of}
 use Rattle.rules.specs.Fields.{word_after, read_buffer_control, read_endpoint_control, read_addr_endp, SieCtrl, read_sie_ctrl}
+use Rattle.transfers.specs.declared.driver.Run.{Run}
+use Rattle.transfers.specs.declared.pipes.Poll.TheVariants.{Packet as polled_packet}
 
 -- A slot is armed with a packet (OUT packets are FULL, IN slots are not): its half says so and the other half stays. AVAILABLE comes last (4.1.2.5.1), after "A delay of 12 cycles".
 pub record ArmsSlot (full : Bool) (a : Arm) (old : ℕ) (ws : List Write) : Type 0 where
@@ -87,18 +85,18 @@ pub record DatasheetRules : Type 0 where
   pub clear : (t : Target) (n old : ℕ) → word_after 0x5010_0080 old (head_writes t n) ≡ 0
   pub starts : (d : Direction) (old : ℕ) → Starts d old (go_writes d)
   -- The whole log of a begin that is accepted: the caller's address, endpoint and packet size.
-  pub bulk_in : (t : Transfer) (a e p : ℕ) (k : TransferType) (b : Bool) (lent m log : List ℕ) (old : ℕ) → let o = begin_bulk_in_of t a e p k b lent m log in
-      o.answer ≡ Begun → PointsAt a e p (length lent) old o.writes × Starts In old o.writes
-  pub bulk_out : (t : Transfer) (a e p : ℕ) (k : TransferType) (b : Bool) (lent m log : List ℕ) (old : ℕ) → let o = begin_bulk_out_of t a e p k b lent m log in
-      o.answer ≡ Begun → PointsAt a e p (length lent) old o.writes × Starts Out old o.writes
+  pub bulk_in : (t : Option Run) (a e p : ℕ) (k : TransferType) (b : Bool) (lent m log : List ℕ) (old : ℕ) → let o = begin_bulk_in_of t a e p k b lent m log in
+      o.answer ≡ Ok tt → PointsAt a e p (length lent) old o.writes × Starts In old o.writes
+  pub bulk_out : (t : Option Run) (a e p : ℕ) (k : TransferType) (b : Bool) (lent m log : List ℕ) (old : ℕ) → let o = begin_bulk_out_of t a e p k b lent m log in
+      o.answer ≡ Ok tt → PointsAt a e p (length lent) old o.writes × Starts Out old o.writes
   -- A SETUP's fields are two u8 and three u16.
-  pub setup : (t : Transfer) (a : ℕ) (x : TransferExtras) (p : ℕ) (s : SetupPacket) (ph : DataPhase) (lent m log : List ℕ) (old : ℕ)
+  pub setup : (t : Option Run) (a : ℕ) (x : TransferExtras) (p : ℕ) (s : SetupPacket) (ph : DataPhase) (lent m log : List ℕ) (old : ℕ)
       → s.bmRequestType < 0x100 → s.bRequest < 0x100 → s.wValue < 0x1_0000 → s.wIndex < 0x1_0000 → s.wLength < 0x1_0000 → let o = begin_control_of t a x p s ph lent m log in
-      o.answer ≡ Begun → SendsSetup a x s old o.writes
+      o.answer ≡ Ok tt → SendsSetup a x s old o.writes
   -- The whole log of an open that answers a pipe: that pipe, and the caller's fields.
   pub opens : (d : Driver) (address : ℕ) (extras : TransferExtras) (endpoint size interval : ℕ) (log : List ℕ) (n : PipeNumber) (old : ℕ) → let o = opening d address extras endpoint size interval log in
-      o.answer ≡ Opened n → OpensPipe n.0 address extras endpoint size interval old o.writes
+      o.answer ≡ Ok n → OpensPipe n.0 address extras endpoint size interval old o.writes
   -- The whole log of a poll that answers a packet: "A packet flips the toggle and arms again."
   pub polls : (d : Driver) (n : PipeNumber) (s : PipeSample) (m log : List ℕ) (old : ℕ) → let o = polling d n s m log in
       let held = held_of d.pipes n in
-      held.size ≤ 64 → o.answer ≡ PolledPacket → ArmsPipe n.0 (not held.toggle) held.size old o.writes
+      held.size ≤ 64 → o.answer ≡ Ok polled_packet → ArmsPipe n.0 (not held.toggle) held.size old o.writes

@@ -1,17 +1,14 @@
 -- "Waiting now enables trans complete and all six error interrupts. Every other write by which begin or step enables interrupts sets these seven too, its other bits as before."
 -- The seven are TRANS_COMPLETE (bit 3) and DATA_SEQ, RX_TIMEOUT, RX_OVERFLOW, BIT_STUFF, CRC and STALL (bits 5 to 10) of INTE: 0x7E8.
-use Rattle.std.specs.Prelude.{◌≡◌, Bool, true, false, cond, ◌⊎◌, List, [], ◌∷◌, ◌++◌, ℕ, ◌*◌, eqb, leb, length}
+use Rattle.std.specs.Prelude.{◌≡◌, Bool, true, false, cond, ◌⊎◌, List, [], ◌∷◌, ◌++◌, ℕ, ◌*◌, eqb, leb, length, None, Ok, Option, Some}
 use Rattle.pool.specs.declared.pipe.PipeNumber.{PipeNumber}
 use Rattle.cutting.specs.declared.transfer_type.TransferType.{TransferType}
 use Rattle.transfers.specs.declared.host_controller.DataPhase.{DataPhase}
 use Rattle.transfers.specs.declared.host_controller.TransferExtras.{TransferExtras}
 use Rattle.transfers.specs.declared.wire.SetupPacket.{SetupPacket}
-use Rattle.transfers.specs.declared.answers.BeginAnswer.TheVariants.{Begun}
 use Rattle.transfers.specs.declared.sample.Sample.{Sample}
 use Rattle.transfers.specs.declared.pipes.PipeSample.{PipeSample}
 use Rattle.transfers.specs.declared.driver.Driver.{Driver}
-use Rattle.transfers.specs.declared.driver.Transfer.{Transfer}
-use Rattle.transfers.specs.declared.driver.Transfer.TheVariants.{Idle, Busy}
 use Rattle.transfers.specs.declared.driver.Request.{Request}
 use Rattle.transfers.specs.declared.driver.Kind.{Kind}
 use Rattle.transfers.specs.declared.driver.Kind.TheVariants.{Control as control, Bulk as bulk}
@@ -23,6 +20,7 @@ use Rattle.transfers.specs.Calls.{step_of, begin_control_of, begin_bulk_in_of, b
 use Rattle.transfers.specs.Pipes.{opening, polling}
 use Rattle.rules.specs.Received.{quiet}
 use Rattle.rules.specs.HandsBack.{has_acted}
+use Rattle.transfers.specs.declared.driver.Run.{Run}
 
 -- Of a call's writes those to INTE.
 unfoldable pub to_inte : List Write → List Write
@@ -54,9 +52,9 @@ stage_sets x (in_stage st) = seven_for x.size (stage_bytes x st.status)
 stage_sets x (out_stage st) = seven_for x.size (stage_bytes x st.status)
 
 -- The same of a transfer; none once it has ended.
-abbrev pub transfer_sets : Transfer → List Write
-transfer_sets Idle = []
-transfer_sets (Busy r) = stage_sets r.request r.stage
+abbrev pub transfer_sets : Option Run → List Write
+transfer_sets None = []
+transfer_sets (Some r) = stage_sets r.request r.stage
 
 -- A ready poll of a data or status stage first clears the seven, and no other bit.
 abbrev pub stage_clears : Stage → List Write
@@ -65,12 +63,12 @@ stage_clears (in_stage st) = wr 0x5011_0090 0x7E8 0 ∷ []
 stage_clears (out_stage st) = wr 0x5011_0090 0x7E8 0 ∷ []
 
 -- The same of a transfer.
-abbrev pub transfer_clears : Transfer → List Write
-transfer_clears Idle = []
-transfer_clears (Busy r) = stage_clears r.stage
+abbrev pub transfer_clears : Option Run → List Write
+transfer_clears None = []
+transfer_clears (Some r) = stage_clears r.stage
 
 -- A step on t that leaves u, by whether its sample is quiet: then it waits, and sets the seven alone.
-abbrev pub step_sets : Bool → Transfer → Transfer → List Write
+abbrev pub step_sets : Bool → Option Run → Option Run → List Write
 step_sets true t u = inte_sets 0x7E8
 step_sets false t u = transfer_clears t ++ transfer_sets u
 
@@ -78,12 +76,12 @@ step_sets false t u = transfer_clears t ++ transfer_sets u
 -- or step that is refused writes nothing (`refuses` there).
 pub record Enables : Type 0 where
   -- SETUP's.
-  pub begin_control : (t : Transfer) (a : ℕ) (x : TransferExtras) (p : ℕ) (s : SetupPacket) (ph : DataPhase) (buf m log : List ℕ) → to_inte (begin_control_of t a x p s ph buf m log).writes ≡ []
-  pub begin_bulk_in : (t : Transfer) (a e p : ℕ) (k : TransferType) (b : Bool) (buf m log : List ℕ)
-      → let o = begin_bulk_in_of t a e p k b buf m log in o.answer ≡ Begun → to_inte o.writes ≡ seven_for p (length buf)
-  pub begin_bulk_out : (t : Transfer) (a e p : ℕ) (k : TransferType) (b : Bool) (buf m log : List ℕ)
-      → let o = begin_bulk_out_of t a e p k b buf m log in o.answer ≡ Begun → to_inte o.writes ≡ seven_for p (length buf)
-  pub step : (filling : Bool) (t : Transfer) (s : Sample) (buf m log : List ℕ)
+  pub begin_control : (t : Option Run) (a : ℕ) (x : TransferExtras) (p : ℕ) (s : SetupPacket) (ph : DataPhase) (buf m log : List ℕ) → to_inte (begin_control_of t a x p s ph buf m log).writes ≡ []
+  pub begin_bulk_in : (t : Option Run) (a e p : ℕ) (k : TransferType) (b : Bool) (buf m log : List ℕ)
+      → let o = begin_bulk_in_of t a e p k b buf m log in o.answer ≡ Ok tt → to_inte o.writes ≡ seven_for p (length buf)
+  pub begin_bulk_out : (t : Option Run) (a e p : ℕ) (k : TransferType) (b : Bool) (buf m log : List ℕ)
+      → let o = begin_bulk_out_of t a e p k b buf m log in o.answer ≡ Ok tt → to_inte o.writes ≡ seven_for p (length buf)
+  pub step : (filling : Bool) (t : Option Run) (s : Sample) (buf m log : List ℕ)
       → let o = step_of filling t s buf m log in has_acted (step_reply o.answer) ≡ true → to_inte o.writes ≡ step_sets (quiet s) t o.next
   -- So that no pipe turns off what a transfer waits for.
   pub opens : (d : Driver) (address : ℕ) (extras : TransferExtras) (endpoint size interval : ℕ) (log : List ℕ) → to_inte (opening d address extras endpoint size interval log).writes ≡ []

@@ -1,14 +1,12 @@
 -- A bulk IN of 5 bytes at packet size 2 as calls: the begin, a step that waits, one that finds both slots FULL, and the one that finds TRANS_COMPLETE.
 -- The device sends 2, 2 and 1 bytes. The checker computes each line.
-use Rattle.std.specs.Prelude.{◌≡◌, true, false, List, [], ◌∷◌, ◌++◌, map, ℕ, length, replicate, take}
+use Rattle.std.specs.Prelude.{◌≡◌, true, false, List, [], ◌∷◌, ◌++◌, map, ℕ, length, replicate, take, None, Ok}
 use Rattle.cutting.specs.declared.transfer_type.TransferType.TheVariants.{FixedSize}
 use Rattle.cutting.specs.Cut.{in_cut_of, packet}
-use Rattle.transfers.specs.declared.answers.BeginAnswer.TheVariants.{Begun}
-use Rattle.transfers.specs.declared.answers.StepAnswer.TheVariants.{Done}
-use Rattle.transfers.specs.declared.driver.Transfer.TheVariants.{Idle}
 use Rattle.transfers.specs.Calls.{Beginning, begin_bulk_in_of}
 use Rattle.rules.specs.Received.{StepCall, Running, step_in, after_steps, received}
 use Rattle.rules.specs.Armed.{armings, shown, writes_of}
+use Rattle.transfers.specs.declared.answers.Step.TheVariants.{Done}
 
 -- The buffer as it is lent.
 abbrev pub buffer : List ℕ
@@ -24,7 +22,7 @@ log = replicate 192 0
 
 -- Address 5, endpoint 2, packet size 2, DATA1 first.
 abbrev pub begin : Beginning
-begin = begin_bulk_in_of Idle 5 2 2 FixedSize true buffer (memory [] []) log
+begin = begin_bulk_in_of None 5 2 2 FixedSize true buffer (memory [] []) log
 
 -- Nothing is raised; both slots are AVAILABLE.
 abbrev pub waiting : StepCall
@@ -48,8 +46,8 @@ before = after_steps true first (waiting ∷ both ∷ [])
 
 -- The answers, the buffer, the toggle, the packets, and what was armed.
 pub record Example : Type 0 where
-  pub begun : begin.answer ≡ Begun
-  pub done : (step_in before last).answer ≡ Done 5
+  pub begun : begin.answer ≡ Ok tt
+  pub done : (step_in before last).answer ≡ Ok (Done 5)
   pub bytes : (step_in before last).buffer ≡ 1 ∷ 2 ∷ 3 ∷ 4 ∷ 9 ∷ []
   -- Three packets: DATA1 in, DATA0 out.
   pub toggle : (step_in before last).toggle ≡ false

@@ -1,5 +1,5 @@
 -- What every call leaves alone and what it hands back, for every driver value and all arguments. Bits, masks and addresses are document 01's and the datasheet's numbers.
-use Rattle.std.specs.Prelude.{◌≡◌, Bool, true, false, ◌&&◌, ◌||◌, ◌⊎◌, List, [], ◌∷◌, ◌++◌, ℕ, zero, suc, ◌+◌, ◌-◌, ◌*◌, ◌/◌, ◌%◌, ◌^◌, ◌≤◌, min, eqb, leb, length, take, drop, replicate}
+use Rattle.std.specs.Prelude.{◌≡◌, Bool, true, false, ◌&&◌, ◌||◌, ◌⊎◌, List, [], ◌∷◌, ◌++◌, ℕ, zero, suc, ◌+◌, ◌-◌, ◌*◌, ◌/◌, ◌%◌, ◌^◌, ◌≤◌, min, eqb, leb, length, take, drop, replicate, None, Option, Some}
 use Rattle.pool.specs.declared.pipe.PipeNumber.{PipeNumber}
 use Rattle.cutting.specs.declared.transfer_type.TransferType.{TransferType}
 use Rattle.transfers.specs.declared.host_controller.UsbSpeed.TheVariants.{Low1_5, Full12}
@@ -9,15 +9,11 @@ use Rattle.transfers.specs.declared.host_controller.DataPhase.{DataPhase}
 use Rattle.transfers.specs.declared.host_controller.TransferExtras.{TransferExtras}
 use Rattle.transfers.specs.declared.wire.SetupPacket.{SetupPacket}
 use Rattle.transfers.specs.declared.answers.Armed.{Armed}
-use Rattle.transfers.specs.declared.answers.OptionSetup.TheVariants.{None as no_setup}
-use Rattle.transfers.specs.declared.answers.OptionOut.TheVariants.{None as no_out}
 use Rattle.transfers.specs.declared.sample.Sample.{Sample}
 use Rattle.transfers.specs.declared.pipes.PipeSample.{PipeSample}
 use Rattle.transfers.specs.declared.driver.DeskRule.{DeskRule}
 use Rattle.transfers.specs.declared.driver.DeskRule.TheVariants.{One, Two}
 use Rattle.transfers.specs.declared.driver.Driver.{Driver}
-use Rattle.transfers.specs.declared.driver.Transfer.{Transfer}
-use Rattle.transfers.specs.declared.driver.Transfer.TheVariants.{Idle, Busy}
 use Rattle.transfers.specs.declared.driver.Kind.{Kind}
 use Rattle.transfers.specs.declared.driver.Kind.TheVariants.{Control as control, Bulk as bulk}
 use Rattle.transfers.specs.Log.{Write, wr}
@@ -31,6 +27,7 @@ use Rattle.transfers.specs.Reply.{Reply, result, number, begin_reply, StepResult
 use Rattle.transfers.specs.Registers.{bit}
 use Rattle.transfers.specs.Apart.{Every}
 use Rattle.rules.specs.Received.{quiet, ends_stage}
+use Rattle.transfers.specs.declared.driver.Run.{Run}
 
 -- ---- the parts of the state that a call has nothing to do with
 
@@ -65,7 +62,7 @@ pub record HandsOn : Type 0 where
 
 -- No SETUP and no OUT packet.
 abbrev pub none_armed : Armed
-none_armed = record { setup = no_setup; first = no_out; second = no_out }
+none_armed = record { setup = None; first = None; second = None }
 
 -- "1 to 7 and 9 end the transfer"
 abbrev pub ends_transfer : ℕ → Bool
@@ -120,35 +117,35 @@ kind_toggle (control c) = false
 kind_toggle (bulk b) = b.toggle
 
 -- Nothing under way has none either.
-abbrev pub came_with : Transfer → Bool
-came_with Idle = false
-came_with (Busy r) = kind_toggle r.request.kind
+abbrev pub came_with : Option Run → Bool
+came_with None = false
+came_with (Some r) = kind_toggle r.request.kind
 
 -- "The bulk toggle flips .. only when the transfer ends in done.": desk rule 1's toggle. What rule 2 hands out is said by `Toggles`.
 pub record KeepsToggle : Type 0 where
   -- A begin that is accepted keeps the toggle handed in,
-  pub begin_in : (t : Transfer) (a e p : ℕ) (k : TransferType) (b : Bool) (buf m log : List ℕ)
+  pub begin_in : (t : Option Run) (a e p : ℕ) (k : TransferType) (b : Bool) (buf m log : List ℕ)
       → let o = begin_bulk_in_of t a e p k b buf m log in begin_reply o.answer ≡ result tt → came_with o.next ≡ b
-  pub begin_out : (t : Transfer) (a e p : ℕ) (k : TransferType) (b : Bool) (buf m log : List ℕ)
+  pub begin_out : (t : Option Run) (a e p : ℕ) (k : TransferType) (b : Bool) (buf m log : List ℕ)
       → let o = begin_bulk_out_of t a e p k b buf m log in begin_reply o.answer ≡ result tt → came_with o.next ≡ b
   -- so does a step that answers waiting,
-  pub waits : (filling : Bool) (t : Transfer) (s : Sample) (buf m log : List ℕ) (again : Bool)
+  pub waits : (filling : Bool) (t : Option Run) (s : Sample) (buf m log : List ℕ) (again : Bool)
       → let o = step_of filling t s buf m log in step_reply o.answer ≡ result (waiting again) → came_with o.next ≡ came_with t
   -- and it is what every step that doesn't answer done hands out,
-  pub step : (filling : Bool) (t : Transfer) (s : Sample) (buf m log : List ℕ)
+  pub step : (filling : Bool) (t : Option Run) (s : Sample) (buf m log : List ℕ)
       → let o = step_of filling t s buf m log in ((count : ℕ) → step_reply o.answer ≡ result (done count) → ⊥) → o.toggle ≡ came_with t
   -- and every cancel.
-  pub cancel : (t : Transfer) → (cancel_of t).toggle ≡ came_with t
+  pub cancel : (t : Option Run) → (cancel_of t).toggle ≡ came_with t
 
 -- ---- the end of a transfer
 
 -- "a transfer ended by answers 1 to 7 or 9 frees the control pipe": so do done and a cancel.
 pub record Frees : Type 0 where
-  pub after_done : (filling : Bool) (t : Transfer) (s : Sample) (buf m log : List ℕ) (count : ℕ)
-      → let o = step_of filling t s buf m log in step_reply o.answer ≡ result (done count) → o.next ≡ Idle
-  pub after_number : (filling : Bool) (t : Transfer) (s : Sample) (buf m log : List ℕ) (n : ℕ)
-      → let o = step_of filling t s buf m log in step_reply o.answer ≡ number n → ends_transfer n ≡ true → o.next ≡ Idle
-  pub after_cancel : (t : Transfer) → cancel_reply (cancel_of t).answer ≡ result tt → (cancel_of t).next ≡ Idle
+  pub after_done : (filling : Bool) (t : Option Run) (s : Sample) (buf m log : List ℕ) (count : ℕ)
+      → let o = step_of filling t s buf m log in step_reply o.answer ≡ result (done count) → o.next ≡ None
+  pub after_number : (filling : Bool) (t : Option Run) (s : Sample) (buf m log : List ℕ) (n : ℕ)
+      → let o = step_of filling t s buf m log in step_reply o.answer ≡ number n → ends_transfer n ≡ true → o.next ≡ None
+  pub after_cancel : (t : Option Run) → cancel_reply (cancel_of t).answer ≡ result tt → (cancel_of t).next ≡ None
 
 -- ---- a step's first write
 
@@ -163,14 +160,14 @@ enables_waiting = wr 0x5011_0090 0x7E8 0x7E8
 -- A step that acts.
 pub record StepWrites : Type 0 where
   -- INTR and 0x7F8 all zero: "waiting, after writing 0xFF08_0000 to SIE_STATUS and enabling" these seven.
-  pub quietly : (filling : Bool) (t : Transfer) (s : Sample) (buf m log : List ℕ)
+  pub quietly : (filling : Bool) (t : Option Run) (s : Sample) (buf m log : List ℕ)
       → let o = step_of filling t s buf m log in has_acted (step_reply o.answer) ≡ true → quiet s ≡ true
       → (step_reply o.answer ≡ result (waiting false)) × (o.next ≡ t) × (o.armed ≡ none_armed) × (o.writes ≡ clears_status ∷ enables_waiting ∷ []) × (o.memory ≡ m) × (o.buffer ≡ buf)
   -- "Else the same SIE_STATUS write is made": first.
-  pub first : (filling : Bool) (t : Transfer) (s : Sample) (buf m log : List ℕ)
+  pub first : (filling : Bool) (t : Option Run) (s : Sample) (buf m log : List ℕ)
       → let o = step_of filling t s buf m log in has_acted (step_reply o.answer) ≡ true → take 1 o.writes ≡ clears_status ∷ []
   -- "TRANS_COMPLETE: that is bit 18": a step that doesn't end its stage by it doesn't clear it, so that none is lost.
-  pub uncleared : (filling : Bool) (t : Transfer) (s : Sample) (buf m log : List ℕ) → ends_stage s ≡ false → Every (λ r n v. r ≡ 0x5011_0050 → bit 18 v ≡ false) (step_of filling t s buf m log).writes
+  pub uncleared : (filling : Bool) (t : Option Run) (s : Sample) (buf m log : List ℕ) → ends_stage s ≡ false → Every (λ r n v. r ≡ 0x5011_0050 → bit 18 v ≡ false) (step_of filling t s buf m log).writes
 
 -- ---- poll
 

@@ -1,15 +1,13 @@
 -- The state of the interrupt pipes, call by call: the pipe that the call names, and every other one as it was.
-use Rattle.std.specs.Prelude.{◌≡◌, true, false, not, List, ℕ, ◌≤◌}
+use Rattle.std.specs.Prelude.{◌≡◌, true, false, not, List, ℕ, ◌≤◌, Ok}
 use Rattle.pool.specs.declared.pipe.PipeNumber.{PipeNumber}
 use Rattle.transfers.specs.declared.host_controller.TransferExtras.{TransferExtras}
 use Rattle.transfers.specs.declared.driver.Driver.{Driver}
 use Rattle.transfers.specs.declared.driver.Pipes.{Pipes}
 use Rattle.transfers.specs.declared.pipes.PipeSample.{PipeSample}
-use Rattle.transfers.specs.declared.pipes.OpenAnswer.TheVariants.{Pipe as OpenPipe}
-use Rattle.transfers.specs.declared.pipes.CloseAnswer.TheVariants.{Closed}
-use Rattle.transfers.specs.declared.pipes.PollAnswer.TheVariants.{Packet, Waiting}
 use Rattle.transfers.specs.Pipes.{opening, closing, polling}
 use Rattle.transfers.specs.Isolation.{is_open, held_of, Whole, SamePipe}
+use Rattle.transfers.specs.declared.pipes.Poll.TheVariants.{Packet, Waiting}
 
 -- "index 0 to 14 is pipe 1 to 15": every pipe but n is as it was, open or not, its size and its toggle.
 abbrev pub OthersSame : PipeNumber → Pipes → Pipes → Type 0
@@ -42,10 +40,10 @@ pub record AfterPacket (n : PipeNumber) (ps ps' : Pipes) : Type 0 where
 -- For every driver value of 15 pipes and whatever is lent.
 pub record PipeStates : Type 0 where
   pub open_pipe : (d : Driver) (address : ℕ) (extras : TransferExtras) (endpoint size interval : ℕ) (log : List ℕ) (n : PipeNumber) → Whole d
-      → (opening d address extras endpoint size interval log).answer ≡ OpenPipe n
+      → (opening d address extras endpoint size interval log).answer ≡ Ok n
       → AfterOpen n size d.pipes (opening d address extras endpoint size interval log).next.pipes
-  pub close_pipe : (d : Driver) (n : PipeNumber) → Whole d → (closing d n).answer ≡ Closed → AfterClose n d.pipes (closing d n).next.pipes
+  pub close_pipe : (d : Driver) (n : PipeNumber) → Whole d → (closing d n).answer ≡ Ok tt → AfterClose n d.pipes (closing d n).next.pipes
   pub poll_packet : (d : Driver) (n : PipeNumber) (s : PipeSample) (pm log : List ℕ) → Whole d
-      → (polling d n s pm log).answer ≡ Packet → AfterPacket n d.pipes (polling d n s pm log).next.pipes
+      → (polling d n s pm log).answer ≡ Ok Packet → AfterPacket n d.pipes (polling d n s pm log).next.pipes
   pub poll_waiting : (d : Driver) (n : PipeNumber) (s : PipeSample) (pm log : List ℕ)
-      → (polling d n s pm log).answer ≡ Waiting → (polling d n s pm log).next.pipes ≡ d.pipes
+      → (polling d n s pm log).answer ≡ Ok Waiting → (polling d n s pm log).next.pipes ≡ d.pipes

@@ -1,6 +1,6 @@
 -- An IN transfer from its begin to its done, told by the samples and packet memories that its steps were lent: which packets were retired, and what the caller gets of them.
 -- Bits, masks and addresses are document 01's and the datasheet's numbers. Of the driver it takes only the calls and their answers.
-use Rattle.std.specs.Prelude.{◌≡◌, Bool, true, false, not, ◌&&◌, List, [], ◌∷◌, ◌++◌, map, ℕ, zero, suc, ◌+◌, ◌≤◌, min, eqb, leb, ltb, length, take, drop}
+use Rattle.std.specs.Prelude.{◌≡◌, Bool, true, false, not, ◌&&◌, List, [], ◌∷◌, ◌++◌, map, ℕ, zero, suc, ◌+◌, ◌≤◌, min, eqb, leb, ltb, length, take, drop, None, Ok, Option}
 use Rattle.std.specs.Int.Bits.{bit_and}
 use Rattle.cutting.specs.declared.transfer_type.TransferType.{TransferType}
 use Rattle.cutting.specs.declared.transfer_type.TransferType.TheVariants.{FixedSize}
@@ -10,15 +10,13 @@ use Rattle.cutting.specs.Retire.{sum}
 use Rattle.transfers.specs.declared.host_controller.DataPhase.TheVariants.{In as phase_in}
 use Rattle.transfers.specs.declared.host_controller.TransferExtras.{TransferExtras}
 use Rattle.transfers.specs.declared.wire.SetupPacket.{SetupPacket}
-use Rattle.transfers.specs.declared.answers.BeginAnswer.TheVariants.{Begun}
-use Rattle.transfers.specs.declared.answers.StepAnswer.TheVariants.{Done}
 use Rattle.transfers.specs.declared.sample.Sample.{Sample}
-use Rattle.transfers.specs.declared.driver.Transfer.{Transfer}
-use Rattle.transfers.specs.declared.driver.Transfer.TheVariants.{Idle}
 use Rattle.transfers.specs.Registers.{bit}
 use Rattle.transfers.specs.Outcome.{Outcome}
 use Rattle.transfers.specs.Calls.{step_of, begin_bulk_in_of, begin_control_of}
 use Rattle.rules.specs.Fields.{read_buffer_control}
+use Rattle.transfers.specs.declared.answers.Step.TheVariants.{Done}
+use Rattle.transfers.specs.declared.driver.Run.{Run}
 
 -- ---- what a sample shows
 
@@ -152,7 +150,7 @@ control_received slots ys = retired_in (control_tally slots in_setup ys)
 
 -- The transfer and the buffer between two steps: "Each call takes the driver's state by value and hands the next one back", and each step is lent the buffer that the one before it left.
 pub record Running : Type 0 where
-  pub transfer : Transfer
+  pub transfer : Option Run
   pub buffer : List ℕ
 
 -- A step: `step_in` where it fills the buffer, else `step_out`.
@@ -187,17 +185,17 @@ pub record Moved (n : ℕ) (lent : List ℕ) (packets : List (List ℕ)) (count 
 -- For every list of steps from a begin that is accepted to the step that answers done, refused and waiting ones among them:
 pub record Receives : Type 0 where
   -- bulk IN: at most its buffer's length, and the toggle flipped once per packet;
-  pub bulk : (t : Transfer) (a e p : ℕ) (k : TransferType) (b : Bool) (lent m log : List ℕ) (ys : List StepCall) (y : StepCall) (count : ℕ)
-      → (begin_bulk_in_of t a e p k b lent m log).answer ≡ Begun
+  pub bulk : (t : Option Run) (a e p : ℕ) (k : TransferType) (b : Bool) (lent m log : List ℕ) (ys : List StepCall) (y : StepCall) (count : ℕ)
+      → (begin_bulk_in_of t a e p k b lent m log).answer ≡ Ok tt
       → let o = step_in (after_steps true (record { transfer = (begin_bulk_in_of t a e p k b lent m log).next; buffer = lent }) ys) y in
       let got = received (length (in_cut_of k p b (length lent))) (ys ++ (y ∷ [])) in
-      o.answer ≡ Done count → Moved (length lent) lent got count o.buffer × (o.toggle ≡ toggled b got) × (o.next ≡ Idle)
+      o.answer ≡ Ok (Done count) → Moved (length lent) lent got count o.buffer × (o.toggle ≡ toggled b got) × (o.next ≡ None)
   -- control In: at most wLength bytes, those of its data stage.
-  pub control : (t : Transfer) (a : ℕ) (x : TransferExtras) (p : ℕ) (s : SetupPacket) (lent m log : List ℕ) (ys : List StepCall) (y : StepCall) (count : ℕ)
+  pub control : (t : Option Run) (a : ℕ) (x : TransferExtras) (p : ℕ) (s : SetupPacket) (lent m log : List ℕ) (ys : List StepCall) (y : StepCall) (count : ℕ)
       → s.wLength ≤ 0xFFFF
-      → (begin_control_of t a x p s phase_in lent m log).answer ≡ Begun
+      → (begin_control_of t a x p s phase_in lent m log).answer ≡ Ok tt
       → let o = step_in (after_steps true (record { transfer = (begin_control_of t a x p s phase_in lent m log).next; buffer = lent }) ys) y in
       let got = control_received (length (in_cut_of FixedSize p true s.wLength)) (ys ++ (y ∷ [])) in
-      o.answer ≡ Done count → Moved s.wLength lent got count o.buffer × (o.next ≡ Idle)
+      o.answer ≡ Ok (Done count) → Moved s.wLength lent got count o.buffer × (o.next ≡ None)
   -- A packet is as long as LENGTH says.
   pub lengths : (y : StepCall) (s : Bool) → lent_well y ≡ true → length (packet_at y s) ≡ (read_buffer_control y.sample.buffers s).LENGTH

@@ -1,16 +1,14 @@
 -- A bulk OUT from its begin to its done, told by the samples that its steps were lent: how many packets were retired, and what the caller gets.
 -- Bits, masks and addresses are document 01's and the datasheet's numbers. Of the driver it takes only the calls and their answers.
-use Rattle.std.specs.Prelude.{◌≡◌, Bool, true, false, not, ◌&&◌, List, [], ◌∷◌, ◌++◌, ℕ, zero, suc, ◌+◌, min, eqb, ltb, length}
+use Rattle.std.specs.Prelude.{◌≡◌, Bool, true, false, not, ◌&&◌, List, [], ◌∷◌, ◌++◌, ℕ, zero, suc, ◌+◌, min, eqb, ltb, length, None, Ok, Option}
 use Rattle.cutting.specs.declared.transfer_type.TransferType.{TransferType}
 use Rattle.cutting.specs.Cut.{out_cut}
-use Rattle.transfers.specs.declared.answers.BeginAnswer.TheVariants.{Begun}
-use Rattle.transfers.specs.declared.answers.StepAnswer.TheVariants.{Done}
-use Rattle.transfers.specs.declared.driver.Transfer.{Transfer}
-use Rattle.transfers.specs.declared.driver.Transfer.TheVariants.{Idle}
 use Rattle.transfers.specs.Outcome.{Outcome}
 use Rattle.transfers.specs.Calls.{begin_bulk_out_of}
 use Rattle.rules.specs.Fields.{read_buffer_control}
 use Rattle.rules.specs.Received.{quiet, complete, ends_stage, slot_of, StepCall, lent_well, arm_one, step_by}
+use Rattle.transfers.specs.declared.answers.Step.TheVariants.{Done}
+use Rattle.transfers.specs.declared.driver.Run.{Run}
 
 -- ---- what a step is lent
 
@@ -74,11 +72,11 @@ sent packets n zs = (sent_steps packets n (record { armed = min packets 2; retir
 -- ---- the calls
 
 -- `step_out`.
-abbrev pub step_out : Transfer → SendCall → Outcome
+abbrev pub step_out : Option Run → SendCall → Outcome
 step_out t z = step_by false (record { transfer = t; buffer = z.bytes }) z.call
 
 -- A list of steps, each of which gets the state that the one before it handed back.
-unfoldable pub after_sends : Transfer → List SendCall → Transfer
+unfoldable pub after_sends : Option Run → List SendCall → Option Run
 after_sends t [] = t
 after_sends t (z ∷ zs) = after_sends (step_out t z).next zs
 
@@ -92,13 +90,13 @@ flip_times b (suc k) = not (flip_times b k)
 -- For every list of steps from a bulk OUT begin that is accepted, refused and waiting ones among them:
 pub record Sends : Type 0 where
   -- the step that answers done counts the buffer, and hands out the toggle flipped once per packet;
-  pub bulk : (t : Transfer) (a e p : ℕ) (k : TransferType) (b : Bool) (lent m log : List ℕ) (zs : List SendCall) (z : SendCall) (count : ℕ)
-      → (begin_bulk_out_of t a e p k b lent m log).answer ≡ Begun
+  pub bulk : (t : Option Run) (a e p : ℕ) (k : TransferType) (b : Bool) (lent m log : List ℕ) (zs : List SendCall) (z : SendCall) (count : ℕ)
+      → (begin_bulk_out_of t a e p k b lent m log).answer ≡ Ok tt
       → let o = step_out (after_sends (begin_bulk_out_of t a e p k b lent m log).next zs) z in
       let got = sent (length (out_cut k p b lent)) (length lent) (zs ++ (z ∷ [])) in
-      o.answer ≡ Done count → (count ≡ length lent) × (o.toggle ≡ flip_times b got) × (o.next ≡ Idle)
+      o.answer ≡ Ok (Done count) → (count ≡ length lent) × (o.toggle ≡ flip_times b got) × (o.next ≡ None)
   -- while it is under way, "TRANS_COMPLETE wins": a step that acts and finds it answers done.
-  pub completed : (t : Transfer) (a e p : ℕ) (k : TransferType) (b : Bool) (lent m log : List ℕ) (zs : List SendCall) (z : SendCall)
-      → (begin_bulk_out_of t a e p k b lent m log).answer ≡ Begun
+  pub completed : (t : Option Run) (a e p : ℕ) (k : TransferType) (b : Bool) (lent m log : List ℕ) (zs : List SendCall) (z : SendCall)
+      → (begin_bulk_out_of t a e p k b lent m log).answer ≡ Ok tt
       → let u = after_sends (begin_bulk_out_of t a e p k b lent m log).next zs in
-      (u ≡ Idle → ⊥) → (acting (length lent) z && ends_stage z.call.sample) ≡ true → (step_out u z).answer ≡ Done (length lent)
+      (u ≡ None → ⊥) → (acting (length lent) z && ends_stage z.call.sample) ≡ true → (step_out u z).answer ≡ Ok (Done (length lent))

@@ -1,15 +1,10 @@
 -- "Desk rule 1 leaves the bulk toggle as it was when a transfer fails, as the Rust does. Our desk rule 2 flips it once per packet retired before the failure or
 -- cancel, the packet refused by 9 not counted, and hands it out with that failure or cancel."
 -- The answers are the driver's own; that they are document 01's by its order of checks is what step and cancel promise (`step_row_of`, `cancel_row`).
-use Rattle.std.specs.Prelude.{◌≡◌, Bool, true, false, cond, not, ◌&&◌, List, [], ◌∷◌, ℕ, ◌+◌, min, eqb, ltb, length}
+use Rattle.std.specs.Prelude.{◌≡◌, Bool, true, false, cond, not, ◌&&◌, List, [], ◌∷◌, ℕ, ◌+◌, min, eqb, ltb, length, Err, Ok, Result}
 use Rattle.cutting.specs.Cut.{in_cut_of, out_cut}
 use Rattle.transfers.specs.declared.wire.Direction.{Direction}
 use Rattle.transfers.specs.declared.wire.Direction.TheVariants.{In, Out}
-use Rattle.transfers.specs.declared.answers.BeginAnswer.TheVariants.{Begun, Refused as BeginRefused}
-use Rattle.transfers.specs.declared.answers.StepAnswer.{StepAnswer}
-use Rattle.transfers.specs.declared.answers.StepAnswer.TheVariants.{Waiting, Done, Refused}
-use Rattle.transfers.specs.declared.answers.CancelAnswer.{CancelAnswer}
-use Rattle.transfers.specs.declared.answers.CancelAnswer.TheVariants.{Cancelled, Refused as CancelRefused}
 use Rattle.transfers.specs.declared.sample.Sample.{Sample}
 use Rattle.transfers.specs.declared.driver.DeskRule.{DeskRule}
 use Rattle.transfers.specs.declared.driver.DeskRule.TheVariants.{One, Two}
@@ -22,6 +17,9 @@ use Rattle.rules.specs.Fields.{read_buffer_control}
 use Rattle.rules.specs.Received.{quiet, slot_of}
 use Rattle.rules.specs.Sends.{SentTally, was_sent, sent_if, send_two, flip_times}
 use Rattle.rules.specs.HandsBack.{ends_transfer}
+use Rattle.transfers.specs.declared.answers.Step.TheVariants.{Done, Waiting}
+use Rattle.transfers.specs.declared.refusal.Refusal.{Refusal}
+use Rattle.transfers.specs.declared.answers.Step.{Step}
 
 -- ---- what the calls, their samples and answers tell of the bulk transfer under way
 
@@ -71,19 +69,19 @@ moved_on u y =
     record { direction = u.direction; toggle = u.toggle; packets = u.packets; tally = tallied_by (quiet y) u.direction u.packets y.buffers u.tally }
 
 -- After a step, by its answer: done, 1 to 7 and 9 end it, waiting and any other number leave it.
-abbrev pub stepped_on : UnderWay → Sample → StepAnswer → UnderWay
+abbrev pub stepped_on : UnderWay → Sample → Result Step Refusal → UnderWay
 stepped_on none y a = none
-stepped_on (bulk u) y (Waiting again) = bulk (moved_on u y)
-stepped_on (bulk u) y (Done count) = none
-stepped_on (bulk u) y (Refused why) = cond (ends_transfer (number_of why)) none (bulk u)
+stepped_on (bulk u) y (Ok (Waiting again)) = bulk (moved_on u y)
+stepped_on (bulk u) y (Ok (Done count)) = none
+stepped_on (bulk u) y (Err why) = cond (ends_transfer (number_of why)) none (bulk u)
 
 -- After a call and its answer.
 abbrev pub tells : UnderWay → (c : Call) → Answer c → UnderWay
-tells u (begin x buf m log) Begun = began x buf
-tells u (begin x buf m log) (BeginRefused why) = u
+tells u (begin x buf m log) (Ok tt) = began x buf
+tells u (begin x buf m log) (Err why) = u
 tells u (step filling y buf m log) a = stepped_on u y a
-tells u cancel Cancelled = none
-tells u cancel (CancelRefused why) = u
+tells u cancel (Ok tt) = none
+tells u cancel (Err why) = u
 tells u (open_pipe a x e p i log) r = u
 tells u (close_pipe n) r = u
 tells u (poll_pipe n y m log) r = u
@@ -105,17 +103,17 @@ retired_before n u y =
     cond (eqb n 9 && not (ltb 64 (read_buffer_control y.buffers (slot_of r)).LENGTH)) (r + 1) r
 
 -- With a step, by its answer; a control transfer has no toggle, nor has nothing under way, and false goes out.
-abbrev pub StepToggle : DeskRule → UnderWay → Sample → StepAnswer → Bool → Type 0
+abbrev pub StepToggle : DeskRule → UnderWay → Sample → Result Step Refusal → Bool → Type 0
 StepToggle rule none y a out = out ≡ false
-StepToggle rule (bulk u) y (Waiting again) out = out ≡ u.toggle
-StepToggle rule (bulk u) y (Done count) out = out ≡ flip_times u.toggle (done_two u.direction y.buffers u.tally).retired
-StepToggle rule (bulk u) y (Refused why) out = out ≡ cond (ends_transfer (number_of why)) (failing rule u.toggle (retired_before (number_of why) u y)) u.toggle
+StepToggle rule (bulk u) y (Ok (Waiting again)) out = out ≡ u.toggle
+StepToggle rule (bulk u) y (Ok (Done count)) out = out ≡ flip_times u.toggle (done_two u.direction y.buffers u.tally).retired
+StepToggle rule (bulk u) y (Err why) out = out ≡ cond (ends_transfer (number_of why)) (failing rule u.toggle (retired_before (number_of why) u y)) u.toggle
 
 -- With a cancel, which no bulk transfer under way refuses.
-abbrev pub CancelToggle : DeskRule → UnderWay → CancelAnswer → Bool → Type 0
+abbrev pub CancelToggle : DeskRule → UnderWay → Result (Unit {0}) Refusal → Bool → Type 0
 CancelToggle rule none a out = out ≡ false
-CancelToggle rule (bulk u) Cancelled out = out ≡ failing rule u.toggle u.tally.retired
-CancelToggle rule (bulk u) (CancelRefused why) out = ⊥
+CancelToggle rule (bulk u) (Ok tt) out = out ≡ failing rule u.toggle u.tally.retired
+CancelToggle rule (bulk u) (Err why) out = ⊥
 
 -- With a call: only steps and cancels hand a toggle out.
 abbrev pub CallToggle : DeskRule → UnderWay → Driver → Call → Type 0

@@ -1,11 +1,10 @@
 -- "The interrupt routine now looks at 0 to 15": whom it wakes, on any words. No state is asked, so a pipe's bits count though no other pipe shows any.
-use Rattle.std.specs.Prelude.{◌≡◌, Bool, false, not, ◌&&◌, ◌||◌, List, [], ℕ, ◌*◌, ◌/◌, ◌%◌, ◌^◌, ◌≤◌, ◌<◌, eqb, length}
+use Rattle.std.specs.Prelude.{◌≡◌, Bool, false, not, ◌&&◌, ◌||◌, List, [], ℕ, ◌*◌, ◌/◌, ◌%◌, ◌^◌, ◌≤◌, ◌<◌, eqb, length, Err, Ok}
 use Rattle.std.specs.Int.Bits.{bit_and}
 use Rattle.transfers.specs.declared.host_controller.TransferExtras.{TransferExtras}
 use Rattle.transfers.specs.declared.driver.Driver.{Driver}
 use Rattle.transfers.specs.declared.refusal.Refusal.{Refusal}
 use Rattle.transfers.specs.declared.irq.Wake.{Wake}
-use Rattle.transfers.specs.declared.irq.IrqAnswer.TheVariants.{Wake as IrqWake, Refused as IrqRefused}
 use Rattle.transfers.specs.declared.irq.Woken.{Woken}
 use Rattle.transfers.specs.Log.{logged}
 use Rattle.transfers.specs.Reply.{result, number, irq_reply, open_reply}
@@ -18,7 +17,7 @@ shows_buffer ints status n = eqb (ints / 0x10 % 2) 1 && not (eqb (status / 2 ^ (
 
 -- The routine answers w.
 abbrev pub IrqAnswers : ℕ → ℕ → List ℕ → Wake → Type 0
-IrqAnswers ints status log w = (waking ints status log).answer ≡ IrqWake w
+IrqAnswers ints status log w = (waking ints status log).answer ≡ Ok w
 
 -- Bit n of a set of pipes is pipe n's.
 abbrev pub is_in : ℕ → ℕ → Bool
@@ -39,7 +38,7 @@ pub record WokenBy (ints status : ℕ) (w : Wake) : Type 0 where
 pub record Wakes : Type 0 where
   -- "15 .. log below 192 words": then nothing is written; lent 192 words it refuses nothing.
   pub short : (ints status : ℕ) (log : List ℕ) → length log < 192 → (irq_reply (waking ints status log).answer ≡ number 15) × ((waking ints status log).writes ≡ [])
-  pub answers : (ints status : ℕ) (log : List ℕ) (why : Refusal) → 192 ≤ length log → (waking ints status log).answer ≡ IrqRefused why → ⊥
+  pub answers : (ints status : ℕ) (log : List ℕ) (why : Refusal) → 192 ≤ length log → (waking ints status log).answer ≡ Err why → ⊥
   -- Its answer is what the words say.
   pub woken : (ints status : ℕ) (log : List ℕ) (w : Wake) → IrqAnswers ints status log w → WokenBy ints status w
   -- "the pool hands out pipe 15": every pipe that open answers, whatever is open beside it, is woken by its own bits.

@@ -1,5 +1,5 @@
 -- Every register that any call may write, by the datasheet's addresses (4.1.4), and how many writes a call makes.
-use Rattle.std.specs.Prelude.{◌≡◌, Bool, false, ◌⊎◌, List, ◌++◌, ℕ, ◌+◌, ◌-◌, ◌*◌, ◌≤◌, ◌<◌, length, drop}
+use Rattle.std.specs.Prelude.{◌≡◌, Bool, false, ◌⊎◌, List, ◌++◌, ℕ, ◌+◌, ◌-◌, ◌*◌, ◌≤◌, ◌<◌, length, drop, Option}
 use Rattle.std.specs.Int.Bits.{bit_and}
 use Rattle.pool.specs.declared.pipe.PipeNumber.{PipeNumber}
 use Rattle.cutting.specs.declared.transfer_type.TransferType.{TransferType}
@@ -9,7 +9,6 @@ use Rattle.transfers.specs.declared.wire.SetupPacket.{SetupPacket}
 use Rattle.transfers.specs.declared.sample.Sample.{Sample}
 use Rattle.transfers.specs.declared.pipes.PipeSample.{PipeSample}
 use Rattle.transfers.specs.declared.driver.Driver.{Driver}
-use Rattle.transfers.specs.declared.driver.Transfer.{Transfer}
 use Rattle.transfers.specs.Log.{Write, words, logged}
 use Rattle.transfers.specs.Registers.{bit}
 use Rattle.transfers.specs.Calls.{step_of, begin_control_of, begin_bulk_in_of, begin_bulk_out_of}
@@ -18,6 +17,7 @@ use Rattle.transfers.specs.Irq.{waking}
 use Rattle.transfers.specs.Detect.{detecting}
 use Rattle.transfers.specs.Isolation.{held_of}
 use Rattle.transfers.specs.Apart.{Every}
+use Rattle.transfers.specs.declared.driver.Run.{Run}
 
 -- The list, by the datasheet's addresses. Packet memory from 0x5010_0180 on is not in it, nor is any alias that sets, clears or toggles bits (these lie 0x1000 and more above).
 pub data Register : ℕ → Type 0 where
@@ -51,11 +51,11 @@ pub record Listed (ws : List Write) : Type 0 where
 
 -- Every call (cancel and close write nothing: their definitions have no writes).
 pub record CallsWrite : Type 0 where
-  pub begin_control : (t : Transfer) (a : ℕ) (x : TransferExtras) (p : ℕ) (s : SetupPacket) (ph : DataPhase) (buf m log : List ℕ) → Listed (begin_control_of t a x p s ph buf m log).writes
-  pub begin_bulk_in : (t : Transfer) (a e p : ℕ) (k : TransferType) (b : Bool) (buf m log : List ℕ) → Listed (begin_bulk_in_of t a e p k b buf m log).writes
-  pub begin_bulk_out : (t : Transfer) (a e p : ℕ) (k : TransferType) (b : Bool) (buf m log : List ℕ) → Listed (begin_bulk_out_of t a e p k b buf m log).writes
+  pub begin_control : (t : Option Run) (a : ℕ) (x : TransferExtras) (p : ℕ) (s : SetupPacket) (ph : DataPhase) (buf m log : List ℕ) → Listed (begin_control_of t a x p s ph buf m log).writes
+  pub begin_bulk_in : (t : Option Run) (a e p : ℕ) (k : TransferType) (b : Bool) (buf m log : List ℕ) → Listed (begin_bulk_in_of t a e p k b buf m log).writes
+  pub begin_bulk_out : (t : Option Run) (a e p : ℕ) (k : TransferType) (b : Bool) (buf m log : List ℕ) → Listed (begin_bulk_out_of t a e p k b buf m log).writes
   -- `step_in` and `step_out`
-  pub step : (filling : Bool) (t : Transfer) (s : Sample) (buf m log : List ℕ) → Listed (step_of filling t s buf m log).writes
+  pub step : (filling : Bool) (t : Option Run) (s : Sample) (buf m log : List ℕ) → Listed (step_of filling t s buf m log).writes
   pub opens : (d : Driver) (address : ℕ) (extras : TransferExtras) (endpoint size interval : ℕ) (log : List ℕ) → Listed (opening d address extras endpoint size interval log).writes
   -- A pipe's size is a u8.
   pub poll : (d : Driver) (n : PipeNumber) (s : PipeSample) (pm log : List ℕ) → (held_of d.pipes n).size < 256 → Listed (polling d n s pm log).writes

@@ -2,10 +2,10 @@
 use mathlib.Core.Path.{◌≡◌, refl, sym, ap, ◌∙◌}
 use mathlib.Core.Bool.{true, false}
 use mathlib.Core.List.{List, [], ◌∷◌, ◌++◌}
-use Prim.Native.Nat.{ℕ, ◌+◌, ◌*◌, ◌/◌, ◌%◌, ◌<◌}
+use Prim.Native.Nat.{ℕ, ◌+◌, ◌*◌, ◌/◌, ◌%◌, ◌<◌, ◌≤◌}
 use native.Mathlib.Numerals.{add-one}
 use native.Mathlib.Omega.{arith}
-use lib.Dec.{leb}
+use borrow.Author.Tests.{le-leb, lt-leb}
 use lib.ListN.{length, take, get_or}
 use lib.Seq.{sets, take-suc, length-take-le}
 use Rattle.io.specs.Digits.{hex_digit_ascii}
@@ -13,13 +13,17 @@ use Rattle.pool.proofs.Stores.{sets_append}
 use Rattle.script.specs.Text.{fits, placed, place_after, Placed, hex_of, pairs_text}
 
 -- A text that fits, and one that doesn't.
-pub placed_there : (out : List ℕ) (at : ℕ) (text out' : List ℕ) (at' : ℕ) → fits out at text ≡ true → out' ≡ sets out at text → at' ≡ at + length text → Placed out at text out' at'
+pub placed_there : (out : List ℕ) (at : ℕ) (text out' : List ℕ) (at' : ℕ) → at + length text ≤ length out → out' ≡ sets out at text → at' ≡ at + length text → Placed out at text out' at'
 unfolding placed place_after
-placed_there out at text out' at' f e n = record { bytes = simp f e; next = simp f n }
+placed_there out at text out' at' h e n =
+    let f : fits out at text ≡ true = le-leb (at + length text) (length out) h in
+    record { bytes = simp f e; next = simp f n }
 
-pub placed_not : (out : List ℕ) (at : ℕ) (text : List ℕ) → fits out at text ≡ false → Placed out at text out at
+pub placed_not : (out : List ℕ) (at : ℕ) (text : List ℕ) → length out < at + length text → Placed out at text out at
 unfolding placed place_after
-placed_not out at text f = record { bytes = simp f; next = simp f }
+placed_not out at text h =
+    let f : fits out at text ≡ false = lt-leb (at + length text) (length out) h in
+    record { bytes = simp f; next = simp f }
 
 -- Bytes as pairs of digits.
 pub hex_length : (bs : List ℕ) → length (hex_of bs) ≡ 2 * length bs
@@ -56,8 +60,5 @@ unfolding pairs_text
 pairs_some [] n = absurd (n refl)
 pairs_some (b ∷ bs) n = refl
 
-pub pairs_length : (bs : List ℕ) → (length bs ≡ 0 → ⊥) → 2 * length bs ≡ length (pairs_text bs)
-pairs_length bs n = sym (ap length (pairs_some bs n) ∙ hex_length bs)
-
-pub pairs_fit : (out : List ℕ) (at : ℕ) (bs : List ℕ) → (length bs ≡ 0 → ⊥) → fits out at (pairs_text bs) ≡ leb (at + 2 * length bs) (length out)
-pairs_fit out at bs n = ap (λ (k : ℕ). leb (at + k) (length out)) (sym (pairs_length bs n))
+pub pairs_length : (bs : List ℕ) → (length bs ≡ 0 → ⊥) → length (pairs_text bs) ≡ 2 * length bs
+pairs_length bs n = ap length (pairs_some bs n) ∙ hex_length bs

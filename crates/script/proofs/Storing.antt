@@ -1,25 +1,37 @@
 -- Laws of bytes read from digits or made by a rule, and of storing them from the start on. Assumes nothing.
 use mathlib.Core.Path.{◌≡◌, refl, sym, ap, ap₂, ◌∙◌}
 use mathlib.Core.Bool.{Bool, true, false, ◌&&◌}
-use mathlib.Core.List.{List, [], ◌∷◌}
-use Prim.Native.Nat.{ℕ, zero, suc, ◌+◌, ◌*◌, ◌/◌, ◌%◌, ◌≤◌, ◌<◌}
+use mathlib.Core.List.{List, [], ◌∷◌, ◌++◌}
+use Prim.Native.Nat.{ℕ, zero, suc, ◌+◌, ◌*◌, ◌/◌, ◌≤◌, ◌<◌}
 use native.Mathlib.Nat.{zero-add}
 use native.Mathlib.Omega.{arith}
-use borrow.Author.Tests.{lt-ltb, le-ltb, le-leb, lt-leb, eq-eqb, ne_eqb, ltb-true}
+use borrow.Author.Tests.{ltb-true}
 use lib.Dec.{ltb}
-use lib.ListN.{length, take, set, get_or}
+use lib.ListN.{length, drop, get_or}
 use lib.Seq.{sets}
-use Rattle.pool.proofs.Stores.{copy_more}
-use Rattle.script.specs.Parts.{part_of, same_text}
-use Rattle.script.specs.Numbers.{digit_of, all_digits, number_of}
-use Rattle.script.specs.Bytes.{longest, Given, Wrong, pairs_of, hex_bytes, seq_at, seq_from, seq_then, seq_bytes}
-use Rattle.script.specs.declared.number.OptionNumber.{OptionNumber}
-use Rattle.script.specs.declared.number.OptionNumber.TheVariants.{Some as Number, None as NoNumber}
-use Rattle.script.proofs.Walks.{and_false}
+use Rattle.std.specs.Char.{is_ascii_hexdigit}
+use Rattle.std.specs.List.{list_all}
+use Rattle.std.proofs.lemmas.Bool.Decides.{nat_tests}
+use Rattle.std.proofs.lemmas.Grind.{elements}
+use Rattle.pool.proofs.Stores.{put_sets}
+use Rattle.script.specs.Numbers.{digit_of, all_digits}
+use Rattle.script.specs.Bytes.{pairs_of, seq_at, seq_from}
 
--- A turn of a loop that stores from the start on.
-pub store_more : (d s : List ℕ) (i : ℕ) → i < length s → set (sets d 0 (take i s)) i (get_or s i 0) ≡ sets d 0 (take (i + 1) s)
-store_more d s i h = ap (λ (k : ℕ). set (sets d 0 (take i s)) k (get_or s i 0)) (sym (zero-add i)) ∙ copy_more d s 0 i h
+-- Bytes put over the first n of others.
+pub put_first : (d bs vs : List ℕ) (n : ℕ) → length bs ≡ n → length vs ≡ n → n ≤ length d → ((k : ℕ) → k < n → get_or bs k 0 ≡ get_or vs k 0) → bs ++ drop n d ≡ sets d 0 vs
+put_first d bs vs n e v h f =
+    let same : bs ≡ vs = grind (arith, elements) in
+    put_sets 0 n d bs e (omega arith) ∙ ap (sets d 0) same
+
+-- All digits are hexadecimal where std says so of each.
+hex_digit : (b : ℕ) → is_ascii_hexdigit b ≡ ltb (digit_of b) 16
+unfolding digit_of
+hex_digit b = grind (arith, nat_tests)
+
+pub all_hex : (ds : List ℕ) → all_digits 16 ds ≡ list_all is_ascii_hexdigit ds
+unfolding all_digits
+all_hex [] = refl
+all_hex (d ∷ ds) = ap₂ (λ s t. s && t) (sym (hex_digit d)) (all_hex ds)
 
 -- Each of hexadecimal digits is one.
 pub hex_at : (ds : List ℕ) (i : ℕ) → all_digits 16 ds ≡ true → i < length ds → digit_of (get_or ds i 0) < 16
@@ -67,52 +79,3 @@ seq_from_at start step k (suc n) (suc i) h = let e : suc k + i ≡ k + suc i = o
 
 pub seq_here : (start step n i : ℕ) → i < n → seq_at start step i ≡ get_or (seq_from start step 0 n) i 0
 seq_here start step n i h = sym (seq_from_at start step 0 n i h ∙ ap (seq_at start step) (zero-add i))
-
--- What a call of `number` on a part answered is what the part's number is.
-pub numbered : (most : ℕ) {t u : List ℕ} {r s : OptionNumber} → r ≡ number_of t most → t ≡ u → r ≡ s → number_of u most ≡ s
-numbered most p q e = sym (ap (λ (l : List ℕ). number_of l most) q) ∙ sym p ∙ e
-
--- The rule's bytes, where a number is missing and where all are there.
-module _ (text : List ℕ) where
-  pub seq_no_count : number_of (part_of 58 text 1) longest ≡ NoNumber → seq_bytes text ≡ Wrong
-  unfolding seq_bytes seq_then
-  seq_no_count e = rw e
-
-  pub seq_no_start : (n : ℕ) → number_of (part_of 58 text 1) longest ≡ Number n → number_of (part_of 58 text 2) 255 ≡ NoNumber → seq_bytes text ≡ Wrong
-  unfolding seq_bytes seq_then
-  seq_no_start n e f = rw (e, f)
-
-  pub seq_no_step : (n start : ℕ) → number_of (part_of 58 text 1) longest ≡ Number n → number_of (part_of 58 text 2) 255 ≡ Number start → number_of (part_of 58 text 3) 255 ≡ NoNumber → seq_bytes text ≡ Wrong
-  unfolding seq_bytes seq_then
-  seq_no_step n start e f g = rw (e, f, g)
-
-  pub seq_whole : (n start step : ℕ) → number_of (part_of 58 text 1) longest ≡ Number n → number_of (part_of 58 text 2) 255 ≡ Number start → number_of (part_of 58 text 3) 255 ≡ Number step
-      → seq_bytes text ≡ Given (seq_from start step 0 n)
-  unfolding seq_bytes seq_then
-  seq_whole n start step e f g = rw (e, f, g)
-
--- Hexadecimal pairs, where they are none and where they are.
-module _ (text : List ℕ) where
-  pub hex_empty : length text ≡ 0 → hex_bytes text ≡ Wrong
-  unfolding hex_bytes
-  hex_empty e = simp (le-ltb 0 (length text) (omega arith))
-
-  pub hex_long : 262144 < length text → hex_bytes text ≡ Wrong
-  unfolding hex_bytes
-  hex_long h = simp (lt-leb (length text) (2 * longest) h, and_false)
-
-  pub hex_odd : (length text % 2 ≡ 0 → ⊥) → hex_bytes text ≡ Wrong
-  unfolding hex_bytes
-  hex_odd h = simp (ne_eqb (length text % 2) 0 h, and_false)
-
-  pub hex_bad : all_digits 16 text ≡ false → hex_bytes text ≡ Wrong
-  unfolding hex_bytes
-  hex_bad e = simp (e, and_false)
-
-  pub hex_whole : (length text ≡ 0 → ⊥) → length text ≤ 262144 → length text % 2 ≡ 0 → all_digits 16 text ≡ true → hex_bytes text ≡ Given (pairs_of text)
-  unfolding hex_bytes
-  hex_whole a b d e = simp (lt-ltb 0 (length text) (omega arith), le-leb (length text) (2 * longest) b, eq-eqb (length text % 2) 0 d, e)
-
--- The same of a call of `same` on a part.
-pub samed : (w : List ℕ) {t u : List ℕ} {r s : Bool} → r ≡ same_text t w → t ≡ u → r ≡ s → same_text u w ≡ s
-samed w p q e = sym (ap (λ (l : List ℕ). same_text l w) q) ∙ sym p ∙ e

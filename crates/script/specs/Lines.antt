@@ -1,78 +1,20 @@
 -- What a line asks for: the table of the script's format, line by line.
-use Rattle.std.specs.Prelude.{Bool, cond, ◌||◌, List, [], ◌∷◌, ℕ, ◌+◌, eqb, leb, length, get_or}
+use Rattle.std.specs.Prelude.{Bool, cond, ◌||◌, List, [], ◌∷◌, ℕ, ◌+◌, eqb, leb, length, get_or, Option, Some, None}
 use Rattle.script.specs.Parts.{field_of, fields_of, same_text}
 use Rattle.script.specs.Typed.{byte_at, half_at, word_at, bit_at, length_at, type_at, setup_at, count_at, stored_at}
-use Rattle.script.specs.declared.command.Setup.{Setup}
 use Rattle.script.specs.declared.command.Control.{Control}
 use Rattle.script.specs.declared.command.Bulk.{Bulk}
 use Rattle.script.specs.declared.command.Stepping.{Stepping}
 use Rattle.script.specs.declared.command.Call.{Call}
 use Rattle.script.specs.declared.command.Call.TheVariants.{Skipped, Wrong, Fresh, Rule, Lend, Memory, Buffer, StepIn, StepOut, Cancel, Open, Close, Poll, Irq, Detect, Record}
+use Rattle.script.specs.declared.command.Rule.TheVariants.{One, Two}
 use Rattle.script.specs.declared.command.Command.{Command}
 use Rattle.script.specs.declared.command.Command.TheVariants.{ControlIn, ControlOut, ControlNone, BulkIn, BulkOut, Other}
-use Rattle.script.specs.declared.bytes.OptionCount.{OptionCount}
-use Rattle.script.specs.declared.bytes.OptionCount.TheVariants.{Some as Count, None as NoCount}
-use Rattle.script.specs.declared.typed.OptionByte.{OptionByte}
-use Rattle.script.specs.declared.typed.OptionByte.TheVariants.{Some as Byte, None as NoByte}
-use Rattle.script.specs.declared.typed.OptionHalf.{OptionHalf}
-use Rattle.script.specs.declared.typed.OptionHalf.TheVariants.{Some as Half, None as NoHalf}
-use Rattle.script.specs.declared.typed.OptionWord.{OptionWord}
-use Rattle.script.specs.declared.typed.OptionWord.TheVariants.{Some as Word, None as NoWord}
-use Rattle.script.specs.declared.typed.OptionBit.{OptionBit}
-use Rattle.script.specs.declared.typed.OptionBit.TheVariants.{Some as Bit, None as NoBit}
-use Rattle.script.specs.declared.typed.OptionSetup.{OptionSetup}
-use Rattle.script.specs.declared.typed.OptionSetup.TheVariants.{Some as SomeSetup, None as NoSetup}
-use Rattle.script.specs.declared.calls.OptionStep.{OptionStep}
-use Rattle.script.specs.declared.calls.OptionStep.TheVariants.{Some as SomeStep, None as NoStep}
-use Rattle.script.specs.declared.begins.OptionControl.{OptionControl}
-use Rattle.script.specs.declared.begins.OptionControl.TheVariants.{Some as SomeControl, None as NoControl}
-use Rattle.script.specs.declared.begins.OptionBulk.{OptionBulk}
-use Rattle.script.specs.declared.begins.OptionBulk.TheVariants.{Some as SomeBulk, None as NoBulk}
 
--- A line goes on with what a field holds; where the field can't be read, the other answer stands.
-abbrev pub with_byte : {A : Type 0} → OptionByte → A → (ℕ → A) → A
-with_byte (Byte x) a f = f x
-with_byte NoByte a f = a
-
--- The same for two bytes.
-abbrev pub with_half : {A : Type 0} → OptionHalf → A → (ℕ → A) → A
-with_half (Half x) a f = f x
-with_half NoHalf a f = a
-
--- The same for a register's word.
-abbrev pub with_word : {A : Type 0} → OptionWord → A → (ℕ → A) → A
-with_word (Word x) a f = f x
-with_word NoWord a f = a
-
--- The same for 0 or 1.
-abbrev pub with_bit : {A : Type 0} → OptionBit → A → (Bool → A) → A
-with_bit (Bit x) a f = f x
-with_bit NoBit a f = a
-
--- The same for a length, or the count of BYTES.
-abbrev pub with_count : {A : Type 0} → OptionCount → A → (ℕ → A) → A
-with_count (Count x) a f = f x
-with_count NoCount a f = a
-
--- The same for SETUP.
-abbrev pub with_setup : {A : Type 0} → OptionSetup → A → (Setup → A) → A
-with_setup (SomeSetup x) a f = f x
-with_setup NoSetup a f = a
-
--- The same for a step's sample.
-abbrev pub with_step : {A : Type 0} → OptionStep → A → (Stepping → A) → A
-with_step (SomeStep x) a f = f x
-with_step NoStep a f = a
-
--- The same for what every control has.
-abbrev pub with_control : {A : Type 0} → OptionControl → A → (Control → A) → A
-with_control (SomeControl x) a f = f x
-with_control NoControl a f = a
-
--- The same for what every bulk has.
-abbrev pub with_bulk : {A : Type 0} → OptionBulk → A → (Bulk → A) → A
-with_bulk (SomeBulk x) a f = f x
-with_bulk NoBulk a f = a
+-- A line goes on with what was read; where it can't be read, the other answer stands.
+abbrev pub with_read : {A B : Type 0} → Option A → B → (A → B) → B
+with_read (Some x) a f = f x
+with_read None a f = a
 
 -- What a line that begins no transfer asks for, and the lent bytes with its BYTES at their start.
 pub record Calling : Type 0 where
@@ -96,38 +38,38 @@ reading c out = record { command = c; stored = out }
 unfoldable pub rule_of : List ℕ → Call
 rule_of line =
     cond (eqb (fields_of line) 2)
-    (with_byte (byte_at line 1) Wrong λ rule.
-    cond (eqb rule 0) Wrong (cond (leb rule 2) (Rule rule) Wrong))
+    (with_read (byte_at line 1) Wrong λ rule.
+    cond (eqb rule 1) (Rule One) (cond (eqb rule 2) (Rule Two) Wrong))
     Wrong
 
 -- `lend PMLEN LOGLEN`.
 unfoldable pub lend_of : List ℕ → Call
 lend_of line =
     cond (eqb (fields_of line) 3)
-    (with_count (length_at line 1 4096) Wrong λ memory.
-    (with_count (length_at line 2 192) Wrong λ words.
+    (with_read (length_at line 1 4096) Wrong λ memory.
+    (with_read (length_at line 2 192) Wrong λ words.
     Lend (record { memory = memory; words = words })))
     Wrong
 
--- The sample of `step_in` and `step-out`.
-unfoldable pub step_of : List ℕ → OptionStep
+-- The sample of `step-in` and `step-out`.
+unfoldable pub step_of : List ℕ → Option Stepping
 step_of line =
     cond (eqb (fields_of line) 4)
-    (with_word (word_at line 1) NoStep λ status.
-    (with_word (word_at line 2) NoStep λ intr.
-    (with_word (word_at line 3) NoStep λ buffers.
-    SomeStep (record { status = status; intr = intr; buffers = buffers }))))
-    NoStep
+    (with_read (word_at line 1) None λ status.
+    (with_read (word_at line 2) None λ intr.
+    (with_read (word_at line 3) None λ buffers.
+    Some (record { status = status; intr = intr; buffers = buffers }))))
+    None
 
 -- `open ADDRESS PREAMBLE ENDPOINT SIZE INTERVAL`.
 unfoldable pub open_of : List ℕ → Call
 open_of line =
     cond (eqb (fields_of line) 6)
-    (with_byte (byte_at line 1) Wrong λ address.
-    (with_bit (bit_at line 2) Wrong λ preamble.
-    (with_byte (byte_at line 3) Wrong λ endpoint.
-    (with_half (half_at line 4) Wrong λ size.
-    (with_byte (byte_at line 5) Wrong λ interval.
+    (with_read (byte_at line 1) Wrong λ address.
+    (with_read (bit_at line 2) Wrong λ preamble.
+    (with_read (byte_at line 3) Wrong λ endpoint.
+    (with_read (half_at line 4) Wrong λ size.
+    (with_read (byte_at line 5) Wrong λ interval.
     Open (record { address = address; preamble = preamble; endpoint = endpoint; size = size; interval = interval }))))))
     Wrong
 
@@ -135,7 +77,7 @@ open_of line =
 unfoldable pub close_of : List ℕ → Call
 close_of line =
     cond (eqb (fields_of line) 2)
-    (with_byte (byte_at line 1) Wrong λ pipe.
+    (with_read (byte_at line 1) Wrong λ pipe.
     Close pipe)
     Wrong
 
@@ -143,9 +85,9 @@ close_of line =
 unfoldable pub poll_of : List ℕ → Call
 poll_of line =
     cond (eqb (fields_of line) 4)
-    (with_byte (byte_at line 1) Wrong λ pipe.
-    (with_word (word_at line 2) Wrong λ buffer.
-    (with_word (word_at line 3) Wrong λ target.
+    (with_read (byte_at line 1) Wrong λ pipe.
+    (with_read (word_at line 2) Wrong λ buffer.
+    (with_read (word_at line 3) Wrong λ target.
     Poll (record { pipe = pipe; buffer = buffer; target = target }))))
     Wrong
 
@@ -153,8 +95,8 @@ poll_of line =
 unfoldable pub irq_of : List ℕ → Call
 irq_of line =
     cond (eqb (fields_of line) 3)
-    (with_word (word_at line 1) Wrong λ ints.
-    (with_word (word_at line 2) Wrong λ status.
+    (with_read (word_at line 1) Wrong λ ints.
+    (with_read (word_at line 2) Wrong λ status.
     Irq (record { ints = ints; status = status })))
     Wrong
 
@@ -162,17 +104,17 @@ irq_of line =
 unfoldable pub detect_of : List ℕ → Call
 detect_of line =
     cond (eqb (fields_of line) 2)
-    (with_word (word_at line 1) Wrong λ status.
+    (with_read (word_at line 1) Wrong λ status.
     Detect status)
     Wrong
 
--- `step_in SIE_STATUS INTR EP_BUFFER_CONTROL`.
+-- `step-in SIE_STATUS INTR EP_BUFFER_CONTROL`.
 abbrev pub step_in_of : List ℕ → Call
-step_in_of line = with_step (step_of line) Wrong λ s. StepIn s
+step_in_of line = with_read (step_of line) Wrong λ s. StepIn s
 
 -- `step-out SIE_STATUS INTR EP_BUFFER_CONTROL`.
 abbrev pub step_out_of : List ℕ → Call
-step_out_of line = with_step (step_of line) Wrong λ s. StepOut s
+step_out_of line = with_read (step_of line) Wrong λ s. StepOut s
 
 -- "`pm` past 4,096" can't be read.
 abbrev pub stored_call : ℕ → ℕ → Call
@@ -182,39 +124,39 @@ stored_call offset count = cond (leb (offset + count) 4096) (Memory (record { of
 unfoldable pub memory_of : List ℕ → List ℕ → Calling
 memory_of line out =
     cond (eqb (fields_of line) 3)
-    (with_count (length_at line 1 4096) (calling Wrong out) λ offset.
-    calling (with_count (count_at line 2) Wrong λ n. stored_call offset n) (stored_at out line 2))
+    (with_read (length_at line 1 4096) (calling Wrong out) λ offset.
+    calling (with_read (count_at line 2) Wrong λ n. stored_call offset n) (stored_at out line 2))
     (calling Wrong out)
 
 -- `buffer BYTES`.
 unfoldable pub buffer_of : List ℕ → List ℕ → Calling
 buffer_of line out =
     cond (eqb (fields_of line) 2)
-    (calling (with_count (count_at line 1) Wrong λ n. Buffer n) (stored_at out line 1))
+    (calling (with_read (count_at line 1) Wrong λ n. Buffer n) (stored_at out line 1))
     (calling Wrong out)
 
 -- The fields that every control has, on a line of n fields.
-unfoldable pub control_of : List ℕ → ℕ → OptionControl
+unfoldable pub control_of : List ℕ → ℕ → Option Control
 control_of line n =
     cond (eqb (fields_of line) n)
-    (with_byte (byte_at line 1) NoControl λ address.
-    (with_bit (bit_at line 2) NoControl λ preamble.
-    (with_byte (byte_at line 3) NoControl λ size.
-    (with_setup (setup_at line 4) NoControl λ setup.
-    SomeControl (record { address = address; preamble = preamble; size = size; setup = setup; count = 0 })))))
-    NoControl
+    (with_read (byte_at line 1) None λ address.
+    (with_read (bit_at line 2) None λ preamble.
+    (with_read (byte_at line 3) None λ size.
+    (with_read (setup_at line 4) None λ setup.
+    Some (record { address = address; preamble = preamble; size = size; setup = setup; count = 0 })))))
+    None
 
 -- The fields that every bulk has.
-unfoldable pub bulk_of : List ℕ → OptionBulk
+unfoldable pub bulk_of : List ℕ → Option Bulk
 bulk_of line =
     cond (eqb (fields_of line) 7)
-    (with_byte (byte_at line 1) NoBulk λ address.
-    (with_byte (byte_at line 2) NoBulk λ endpoint.
-    (with_half (half_at line 3) NoBulk λ size.
-    (with_bit (type_at line 4) NoBulk λ variable.
-    (with_bit (bit_at line 5) NoBulk λ toggle.
-    SomeBulk (record { address = address; endpoint = endpoint; size = size; variable = variable; toggle = toggle; count = 0 }))))))
-    NoBulk
+    (with_read (byte_at line 1) None λ address.
+    (with_read (byte_at line 2) None λ endpoint.
+    (with_read (half_at line 3) None λ size.
+    (with_read (type_at line 4) None λ variable.
+    (with_read (bit_at line 5) None λ toggle.
+    Some (record { address = address; endpoint = endpoint; size = size; variable = variable; toggle = toggle; count = 0 }))))))
+    None
 
 -- A control with its LEN, or the count of its BYTES.
 abbrev pub control_count : Control → ℕ → Control
@@ -225,12 +167,12 @@ abbrev pub bulk_count : Bulk → ℕ → Bulk
 bulk_count b n = record { address = b.address; endpoint = b.endpoint; size = b.size; variable = b.variable; toggle = b.toggle; count = n }
 
 -- The fields that every control has, and LEN.
-unfoldable pub control_length_of : List ℕ → OptionControl
-control_length_of line = with_control (control_of line 6) NoControl λ c. with_count (length_at line 5 131072) NoControl λ n. SomeControl (control_count c n)
+unfoldable pub control_length_of : List ℕ → Option Control
+control_length_of line = with_read (control_of line 6) None λ c. with_read (length_at line 5 131072) None λ n. Some (control_count c n)
 
 -- The fields that every bulk has, and LEN.
-unfoldable pub bulk_length_of : List ℕ → OptionBulk
-bulk_length_of line = with_bulk (bulk_of line) NoBulk λ b. with_count (length_at line 6 131072) NoBulk λ n. SomeBulk (bulk_count b n)
+unfoldable pub bulk_length_of : List ℕ → Option Bulk
+bulk_length_of line = with_read (bulk_of line) None λ b. with_read (length_at line 6 131072) None λ n. Some (bulk_count b n)
 
 -- A begin that can't be read.
 abbrev pub unread : Command
@@ -238,23 +180,23 @@ unread = Other Wrong
 
 -- `control-in ADDRESS PREAMBLE SIZE SETUP LEN`.
 abbrev pub control_in_of : List ℕ → Command
-control_in_of line = with_control (control_length_of line) unread λ c. ControlIn c
+control_in_of line = with_read (control_length_of line) unread λ c. ControlIn c
 
 -- `control-out ADDRESS PREAMBLE SIZE SETUP BYTES`.
 unfoldable pub control_out_of : List ℕ → List ℕ → Reading
-control_out_of line out = with_control (control_of line 6) (reading unread out) λ c. reading (with_count (count_at line 5) unread λ n. ControlOut (control_count c n)) (stored_at out line 5)
+control_out_of line out = with_read (control_of line 6) (reading unread out) λ c. reading (with_read (count_at line 5) unread λ n. ControlOut (control_count c n)) (stored_at out line 5)
 
--- `control_none ADDRESS PREAMBLE SIZE SETUP`.
+-- `control-none ADDRESS PREAMBLE SIZE SETUP`.
 unfoldable pub control_none_of : List ℕ → Command
-control_none_of line = with_control (control_of line 5) unread λ c. ControlNone c
+control_none_of line = with_read (control_of line 5) unread λ c. ControlNone c
 
--- `bulk_in ADDRESS ENDPOINT SIZE TYPE TOGGLE LEN`.
+-- `bulk-in ADDRESS ENDPOINT SIZE TYPE TOGGLE LEN`.
 abbrev pub bulk_in_of : List ℕ → Command
-bulk_in_of line = with_bulk (bulk_length_of line) unread λ b. BulkIn b
+bulk_in_of line = with_read (bulk_length_of line) unread λ b. BulkIn b
 
--- `bulk_out ADDRESS ENDPOINT SIZE TYPE TOGGLE BYTES`.
+-- `bulk-out ADDRESS ENDPOINT SIZE TYPE TOGGLE BYTES`.
 unfoldable pub bulk_out_of : List ℕ → List ℕ → Reading
-bulk_out_of line out = with_bulk (bulk_of line) (reading unread out) λ b. reading (with_count (count_at line 6) unread λ n. BulkOut (bulk_count b n)) (stored_at out line 6)
+bulk_out_of line out = with_read (bulk_of line) (reading unread out) λ b. reading (with_read (count_at line 6) unread λ n. BulkOut (bulk_count b n)) (stored_at out line 6)
 
 -- `fresh`, in ASCII; so are the words below.
 abbrev pub word_fresh : List ℕ
@@ -288,19 +230,19 @@ word_control_in = 99 ∷ 111 ∷ 110 ∷ 116 ∷ 114 ∷ 111 ∷ 108 ∷ 45 ∷ 
 abbrev pub word_control_out : List ℕ
 word_control_out = 99 ∷ 111 ∷ 110 ∷ 116 ∷ 114 ∷ 111 ∷ 108 ∷ 45 ∷ 111 ∷ 117 ∷ 116 ∷ []
 
--- `control_none`.
+-- `control-none`.
 abbrev pub word_control_none : List ℕ
 word_control_none = 99 ∷ 111 ∷ 110 ∷ 116 ∷ 114 ∷ 111 ∷ 108 ∷ 45 ∷ 110 ∷ 111 ∷ 110 ∷ 101 ∷ []
 
--- `bulk_in`.
+-- `bulk-in`.
 abbrev pub word_bulk_in : List ℕ
 word_bulk_in = 98 ∷ 117 ∷ 108 ∷ 107 ∷ 45 ∷ 105 ∷ 110 ∷ []
 
--- `bulk_out`.
+-- `bulk-out`.
 abbrev pub word_bulk_out : List ℕ
 word_bulk_out = 98 ∷ 117 ∷ 108 ∷ 107 ∷ 45 ∷ 111 ∷ 117 ∷ 116 ∷ []
 
--- `step_in`.
+-- `step-in`.
 abbrev pub word_step_in : List ℕ
 word_step_in = 115 ∷ 116 ∷ 101 ∷ 112 ∷ 45 ∷ 105 ∷ 110 ∷ []
 

@@ -1,7 +1,5 @@
 -- "Numbers are decimal, or hexadecimal after `0x`."
-use Rattle.std.specs.Prelude.{Bool, true, cond, ◌&&◌, List, [], ◌∷◌, ℕ, ◌+◌, ◌*◌, ◌-◌, eqb, leb, ltb, length, drop, get_or}
-use Rattle.script.specs.declared.number.OptionNumber.{OptionNumber}
-use Rattle.script.specs.declared.number.OptionNumber.TheVariants.{Some, None}
+use Rattle.std.specs.Prelude.{Bool, true, cond, ◌&&◌, List, [], ◌∷◌, ℕ, ◌+◌, ◌*◌, ◌-◌, eqb, leb, ltb, length, drop, get_or, Option, Some, None}
 
 -- The value of a decimal or hexadecimal digit, "of either case"; 16 for a byte that is no digit.
 unfoldable pub digit_of : ℕ → ℕ
@@ -21,7 +19,7 @@ spelled base n [] = n
 spelled base n (b ∷ bs) = spelled base (n * base + digit_of b) bs
 
 -- The number that digits of a base spell, if there is a digit, all are of the base, and it is at most `most`.
-unfoldable pub value_of : ℕ → ℕ → List ℕ → OptionNumber
+unfoldable pub value_of : ℕ → ℕ → List ℕ → Option ℕ
 value_of base most ds = cond (ltb 0 (length ds) && (all_digits base ds && leb (spelled base 0 ds) most)) (Some (spelled base 0 ds)) None
 
 -- "Hexadecimal after `0x`": a text begins so.
@@ -29,5 +27,5 @@ abbrev pub is_hex : List ℕ → Bool
 is_hex text = leb 2 (length text) && (eqb (get_or text 0 0) 48 && eqb (get_or text 1 0) 120)
 
 -- "Numbers are decimal, or hexadecimal after `0x`": the number of a text, if it is one and at most `most`.
-unfoldable pub number_of : List ℕ → ℕ → OptionNumber
+unfoldable pub number_of : List ℕ → ℕ → Option ℕ
 number_of text most = cond (is_hex text) (value_of 16 most (drop 2 text)) (value_of 10 most text)

@@ -1,50 +1,24 @@
-// The lines of begins.
-ghost use Rattle.std.specs.Prelude.{◌≡◌};
-ghost use Rattle.script.specs.Lines.{control_of, bulk_of, control_count, bulk_count, control_length_of, bulk_length_of, control_in_of, control_out_of, control_none_of, bulk_in_of, bulk_out_of};
+// The lines of begins. Each answers nothing where the line can't be read.
+ghost use Rattle.std.specs.Prelude.{◌≡◌, unwrap_or};
+ghost use Rattle.script.specs.Lines.{unread, control_of, bulk_of, control_length_of, bulk_length_of, control_in_of, control_out_of, control_none_of, bulk_in_of, bulk_out_of};
 
-use crate::bytes::{LONGEST, OptionCount};
-use crate::command::{Bulk, Call, Command, Control};
-use crate::typed::{
-    OptionBit, OptionByte, OptionHalf, OptionSetup, bit_at, byte_at, bytes_at, fields, half_at,
-    length_at, setup_at, type_at,
-};
-
-#[derive(Clone, Copy)]
-pub enum OptionControl {
-    Some(Control),
-    None,
-}
-
-#[derive(Clone, Copy)]
-pub enum OptionBulk {
-    Some(Bulk),
-    None,
-}
+use crate::bytes::LONGEST;
+use crate::command::{Bulk, Command, Control};
+use crate::typed::{bit_at, byte_at, bytes_at, fields, half_at, length_at, setup_at, type_at};
 
 // The fields that every control has, on a line of n fields.
-pub fn read_control(line: &[u8], n: usize) -> OptionControl
+#[tactic(auto, unfolding(crate::specs::Lines::control_of))]
+pub fn read_control(line: &[u8], n: usize) -> Option<Control>
     ensures { result ≡ control_of line.now n }
 {
     if fields(line) != n {
-        return OptionControl::None;
+        return None;
     }
-    let f1 = byte_at(line, 1);
-    let OptionByte::Some(address) = f1 else {
-        return OptionControl::None;
-    };
-    let f2 = bit_at(line, 2);
-    let OptionBit::Some(preamble) = f2 else {
-        return OptionControl::None;
-    };
-    let f3 = byte_at(line, 3);
-    let OptionByte::Some(size) = f3 else {
-        return OptionControl::None;
-    };
-    let f4 = setup_at(line, 4);
-    let OptionSetup::Some(setup) = f4 else {
-        return OptionControl::None;
-    };
-    OptionControl::Some(Control {
+    let address = byte_at(line, 1)?;
+    let preamble = bit_at(line, 2)?;
+    let size = byte_at(line, 3)?;
+    let setup = setup_at(line, 4)?;
+    Some(Control {
         address,
         preamble,
         size,
@@ -54,33 +28,19 @@ pub fn read_control(line: &[u8], n: usize) -> OptionControl
 }
 
 // The fields that every bulk has.
-fn read_bulk(line: &[u8]) -> OptionBulk
+#[tactic(auto, unfolding(crate::specs::Lines::bulk_of))]
+fn read_bulk(line: &[u8]) -> Option<Bulk>
     ensures { result ≡ bulk_of line.now }
 {
     if fields(line) != 7 {
-        return OptionBulk::None;
+        return None;
     }
-    let f1 = byte_at(line, 1);
-    let OptionByte::Some(address) = f1 else {
-        return OptionBulk::None;
-    };
-    let f2 = byte_at(line, 2);
-    let OptionByte::Some(endpoint) = f2 else {
-        return OptionBulk::None;
-    };
-    let f3 = half_at(line, 3);
-    let OptionHalf::Some(size) = f3 else {
-        return OptionBulk::None;
-    };
-    let f4 = type_at(line, 4);
-    let OptionBit::Some(variable) = f4 else {
-        return OptionBulk::None;
-    };
-    let f5 = bit_at(line, 5);
-    let OptionBit::Some(toggle) = f5 else {
-        return OptionBulk::None;
-    };
-    OptionBulk::Some(Bulk {
+    let address = byte_at(line, 1)?;
+    let endpoint = byte_at(line, 2)?;
+    let size = half_at(line, 3)?;
+    let variable = type_at(line, 4)?;
+    let toggle = bit_at(line, 5)?;
+    Some(Bulk {
         address,
         endpoint,
         size,
@@ -90,121 +50,64 @@ fn read_bulk(line: &[u8]) -> OptionBulk
     })
 }
 
-fn control_count(c: Control, n: usize) -> Control
-    ensures { result ≡ control_count c n }
-{
-    let setup = c.setup;
-    Control {
-        address: c.address,
-        preamble: c.preamble,
-        size: c.size,
-        setup,
-        count: n,
-    }
-}
-
-fn bulk_count(b: Bulk, n: usize) -> Bulk
-    ensures { result ≡ bulk_count b n }
-{
-    Bulk {
-        address: b.address,
-        endpoint: b.endpoint,
-        size: b.size,
-        variable: b.variable,
-        toggle: b.toggle,
-        count: n,
-    }
-}
-
 // The fields that every control has, and LEN.
-pub fn read_control_length(line: &[u8]) -> OptionControl
+#[tactic(auto, unfolding(crate::specs::Lines::control_length_of))]
+pub fn read_control_length(line: &[u8]) -> Option<Control>
     ensures { result ≡ control_length_of line.now }
 {
-    let f1 = read_control(line, 6);
-    let OptionControl::Some(c) = f1 else {
-        return OptionControl::None;
-    };
-    let f2 = length_at(line, 5, LONGEST);
-    let OptionCount::Some(n) = f2 else {
-        return OptionControl::None;
-    };
-    OptionControl::Some(control_count(c, n))
+    let control = read_control(line, 6)?;
+    let count = length_at(line, 5, LONGEST)?;
+    Some(Control { count, ..control })
 }
 
 // The fields that every bulk has, and LEN.
-pub fn read_bulk_length(line: &[u8]) -> OptionBulk
+#[tactic(auto, unfolding(crate::specs::Lines::bulk_length_of))]
+pub fn read_bulk_length(line: &[u8]) -> Option<Bulk>
     ensures { result ≡ bulk_length_of line.now }
 {
-    let f1 = read_bulk(line);
-    let OptionBulk::Some(c) = f1 else {
-        return OptionBulk::None;
-    };
-    let f2 = length_at(line, 6, LONGEST);
-    let OptionCount::Some(n) = f2 else {
-        return OptionBulk::None;
-    };
-    OptionBulk::Some(bulk_count(c, n))
+    let bulk = read_bulk(line)?;
+    let count = length_at(line, 6, LONGEST)?;
+    Some(Bulk { count, ..bulk })
 }
 
 // `control-in ADDRESS PREAMBLE SIZE SETUP LEN`.
-pub(crate) fn read_control_in(line: &[u8]) -> Command
-    ensures { result ≡ control_in_of line.now }
+pub(crate) fn read_control_in(line: &[u8]) -> Option<Command>
+    ensures { unwrap_or result unread ≡ control_in_of line.now }
 {
-    let f1 = read_control_length(line);
-    let OptionControl::Some(c) = f1 else {
-        return Command::Other(Call::Wrong);
-    };
-    Command::ControlIn(c)
+    Some(Command::ControlIn(read_control_length(line)?))
 }
 
 // `control-out ADDRESS PREAMBLE SIZE SETUP BYTES`.
-pub(crate) fn read_control_out(line: &[u8], out: &mut [u8; 131072]) -> Command
-    ensures { (result ≡ (control_out_of line.now out.old).command) × (out.new ≡ (control_out_of line.now out.old).stored) }
+#[tactic(auto, unfolding(crate::specs::Lines::control_out_of))]
+pub(crate) fn read_control_out(line: &[u8], out: &mut [u8; 131072]) -> Option<Command>
+    ensures { (unwrap_or result unread ≡ (control_out_of line.now out.old).command) × (out.new ≡ (control_out_of line.now out.old).stored) }
 {
-    let f1 = read_control(line, 6);
-    let OptionControl::Some(c) = f1 else {
-        return Command::Other(Call::Wrong);
-    };
-    let f2 = bytes_at(line, 5, out);
-    let OptionCount::Some(n) = f2 else {
-        return Command::Other(Call::Wrong);
-    };
-    Command::ControlOut(control_count(c, n))
+    let control = read_control(line, 6)?;
+    let count = bytes_at(line, 5, out)?;
+    Some(Command::ControlOut(Control { count, ..control }))
 }
 
-// `control_none ADDRESS PREAMBLE SIZE SETUP`.
-pub(crate) fn read_control_none(line: &[u8]) -> Command
-    ensures { result ≡ control_none_of line.now }
+// `control-none ADDRESS PREAMBLE SIZE SETUP`.
+#[tactic(auto, unfolding(crate::specs::Lines::control_none_of))]
+pub(crate) fn read_control_none(line: &[u8]) -> Option<Command>
+    ensures { unwrap_or result unread ≡ control_none_of line.now }
 {
-    let f1 = read_control(line, 5);
-    let OptionControl::Some(c) = f1 else {
-        return Command::Other(Call::Wrong);
-    };
-    Command::ControlNone(c)
+    Some(Command::ControlNone(read_control(line, 5)?))
 }
 
-// `bulk_in ADDRESS ENDPOINT SIZE TYPE TOGGLE LEN`.
-pub(crate) fn read_bulk_in(line: &[u8]) -> Command
-    ensures { result ≡ bulk_in_of line.now }
+// `bulk-in ADDRESS ENDPOINT SIZE TYPE TOGGLE LEN`.
+pub(crate) fn read_bulk_in(line: &[u8]) -> Option<Command>
+    ensures { unwrap_or result unread ≡ bulk_in_of line.now }
 {
-    let f1 = read_bulk_length(line);
-    let OptionBulk::Some(c) = f1 else {
-        return Command::Other(Call::Wrong);
-    };
-    Command::BulkIn(c)
+    Some(Command::BulkIn(read_bulk_length(line)?))
 }
 
-// `bulk_out ADDRESS ENDPOINT SIZE TYPE TOGGLE BYTES`.
-pub(crate) fn read_bulk_out(line: &[u8], out: &mut [u8; 131072]) -> Command
-    ensures { (result ≡ (bulk_out_of line.now out.old).command) × (out.new ≡ (bulk_out_of line.now out.old).stored) }
+// `bulk-out ADDRESS ENDPOINT SIZE TYPE TOGGLE BYTES`.
+#[tactic(auto, unfolding(crate::specs::Lines::bulk_out_of))]
+pub(crate) fn read_bulk_out(line: &[u8], out: &mut [u8; 131072]) -> Option<Command>
+    ensures { (unwrap_or result unread ≡ (bulk_out_of line.now out.old).command) × (out.new ≡ (bulk_out_of line.now out.old).stored) }
 {
-    let f1 = read_bulk(line);
-    let OptionBulk::Some(c) = f1 else {
-        return Command::Other(Call::Wrong);
-    };
-    let f2 = bytes_at(line, 6, out);
-    let OptionCount::Some(n) = f2 else {
-        return Command::Other(Call::Wrong);
-    };
-    Command::BulkOut(bulk_count(c, n))
+    let bulk = read_bulk(line)?;
+    let count = bytes_at(line, 6, out)?;
+    Some(Command::BulkOut(Bulk { count, ..bulk }))
 }

@@ -72,13 +72,19 @@ pub struct Interrupt {
     pub status: u32,
 }
 
-// A line that begins no transfer. `Skipped` is an empty line or a comment, `Wrong` a line that can't be read.
+#[derive(Clone, Copy)]
+pub enum Rule {
+    One,
+    Two,
+}
+
+// A line that begins no transfer. `Skipped` is an empty line or a comment, `Wrong` a line that can't be read: calls too, since `parse`'s definition `line_of` (docs/CONTRACTS.md) answers them so.
 #[derive(Clone, Copy)]
 pub enum Call {
     Skipped,
     Wrong,
     Fresh,
-    Rule(u8),
+    Rule(Rule),
     Lend(Lent),
     Memory(Stored),
     Buffer(usize),

@@ -8,5 +8,6 @@ pub mod command;
 pub mod field;
 pub mod line;
 pub mod number;
+mod pairs;
 pub mod text;
 pub mod typed;

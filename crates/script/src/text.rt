@@ -1,39 +1,26 @@
 // The output's text, put into lent bytes from a place on. Each answers the place after it; a text that doesn't fit is left out.
-ghost use Rattle.std.specs.Prelude.{◌≡◌, [], ◌∷◌, ◌+◌, ◌*◌, ◌/◌, ◌%◌, ◌≤◌, ◌<◌, leb, length};
+// Bytes and place stay two parameters: `Placed` speaks of both, and callers keep the place from call to call without the bytes.
+ghost use Rattle.std.specs.Prelude.{◌≡◌, [], ◌∷◌, ◌+◌, ◌*◌, ◌/◌, ◌%◌, ◌≤◌, ◌<◌, length, SomeIff};
 ghost use Rattle.std.proofs.lemmas.List.Edits.{sets};
 ghost use Rattle.io.specs.Digits.{hex_digit_ascii as digitText};
 ghost use Rattle.script.specs.Text.{Placed, PlacedDecimal, PlacedHex, hex_of, pairs_text};
 
-fn has_room(out: &[u8], at: usize, n: usize) -> bool
-    ensures { result ≡ leb (at + n) (length out.now) }
+// The place after n bytes from a place on, if they fit.
+fn end_after(out: &[u8], at: usize, n: usize) -> Option<usize>
+    ensures { SomeIff result (at + n ≤ length out.now) (at + n) }
 {
-    if out.len() < n {
-        return false;
-    }
-    if out.len() - n < at {
-        return false;
-    }
-    true
-}
-
-fn copy(out: &mut [u8], at: usize, text: &[u8])
-    requires { at + length text.now ≤ length out.old }
-    ensures { out.new ≡ sets out.old at text.now }
-{
-    for i in 0..text.len() {
-        out[at + i] = text[i];
-    }
+    at.checked_add(n).filter(|end| *end <= out.len())
 }
 
 // The text itself.
 pub fn put(out: &mut [u8], at: usize, text: &[u8]) -> usize
     ensures { Placed out.old at text.now out.new result }
 {
-    if !has_room(out, at, text.len()) {
+    let Some(end) = end_after(out, at, text.len()) else {
         return at;
-    }
-    copy(out, at, text);
-    at + text.len()
+    };
+    out[at..end].copy_from_slice(text);
+    end
 }
 
 // A number in decimal, without padding.
@@ -59,7 +46,7 @@ fn glyph(d: u8) -> u8
     requires { d < 16 }
     ensures { result ≡ digitText d }
 {
-    if d < 10 { 48 + d } else { 87 + d }
+    char::from_digit(d as u32, 16).unwrap() as u8
 }
 
 fn put_byte(out: &mut [u8], at: usize, b: u8)
@@ -70,12 +57,13 @@ fn put_byte(out: &mut [u8], at: usize, b: u8)
     out[at + 1] = glyph(b % 16);
 }
 
+#[tactic(auto, unfolding(crate::specs::Text::hex_of), using(crate::proofs::Placing::hex_put_more))]
 fn put_bytes(out: &mut [u8], at: usize, bytes: &[u8])
     requires { at + 2 * length bytes.now ≤ length out.old }
     ensures { out.new ≡ sets out.old at (hex_of bytes.now) }
 {
-    for i in 0..bytes.len() {
-        put_byte(out, at + 2 * i, bytes[i]);
+    for (i, b) in bytes.iter().enumerate() {
+        put_byte(out, at + 2 * i, *b);
     }
 }
 
@@ -83,16 +71,12 @@ fn put_bytes(out: &mut [u8], at: usize, bytes: &[u8])
 pub fn put_pairs(out: &mut [u8], at: usize, bytes: &[u8]) -> usize
     ensures { Placed out.old at (pairs_text bytes.now) out.new result }
 {
-    if bytes.len() == 0 {
+    if bytes.is_empty() {
         return put(out, at, b"-");
     }
-    if out.len() / 2 < bytes.len() {
+    let Some(end) = end_after(out, at, 2 * bytes.len()) else {
         return at;
-    }
-    let n = 2 * bytes.len();
-    if !has_room(out, at, n) {
-        return at;
-    }
+    };
     put_bytes(out, at, bytes);
-    at + n
+    end
 }

@@ -1,43 +1,13 @@
 // A line's fields by what they hold.
-ghost use Rattle.std.specs.Prelude.{◌≡◌, true, ◌≤◌, ◌<◌, ◌+◌, ◌*◌, length};
-ghost use Rattle.script.specs.Numbers.{all_digits};
+ghost use Rattle.std.specs.Prelude.{◌≡◌, length};
 ghost use Rattle.script.specs.Parts.{field_of, fields_of, after_field};
-ghost use Rattle.script.specs.Typed.{byte_at, half_at, word_at, bit_at, length_at, type_at, half_pair, setup_of, setup_in, setup_at, count_at, stored_at};
+ghost use Rattle.script.specs.Typed.{byte_at, half_at, word_at, bit_at, length_at, type_at, setup_of, setup_in, setup_at, count_at, stored_at};
 
-use crate::bytes::{OptionCount, all_hex, bytes, pair_at};
+use crate::bytes::bytes;
 use crate::command::Setup;
-use crate::field::{part, parts, rest, same};
-use crate::number::{OptionNumber, number};
-
-#[derive(Clone, Copy)]
-pub enum OptionByte {
-    Some(u8),
-    None,
-}
-
-#[derive(Clone, Copy)]
-pub enum OptionHalf {
-    Some(u16),
-    None,
-}
-
-#[derive(Clone, Copy)]
-pub enum OptionWord {
-    Some(u32),
-    None,
-}
-
-#[derive(Clone, Copy)]
-pub enum OptionBit {
-    Some(bool),
-    None,
-}
-
-#[derive(Clone, Copy)]
-pub enum OptionSetup {
-    Some(Setup),
-    None,
-}
+use crate::field::{part, parts, rest};
+use crate::number::number;
+use crate::pairs::Pairs;
 
 const SPACE: u8 = b' ';
 
@@ -49,129 +19,108 @@ pub fn fields(line: &[u8]) -> usize
 }
 
 // Field number k.
-pub fn field<'a>(line: &'a [u8], k: usize) -> &'a [u8]
+pub fn field(line: &[u8], k: usize) -> &[u8]
     ensures { result.now ≡ field_of line.now k }
 {
     part(line, SPACE, k)
 }
 
 // What stands after the first field.
-pub fn after_field<'a>(line: &'a [u8]) -> &'a [u8]
+pub fn after_field(line: &[u8]) -> &[u8]
     ensures { result.now ≡ after_field line.now }
 {
     rest(line, SPACE)
 }
 
+// The next five differ in the type that a number is put into. They stay, as docs/CONTRACTS.md names them; one over `TryFrom` would be no plainer, as each would still name its type and its most.
+
 // A number up to 255.
-pub fn byte_at(line: &[u8], k: usize) -> OptionByte
+#[tactic(auto, unfolding(crate::specs::Typed::byte_at))]
+pub fn byte_at(line: &[u8], k: usize) -> Option<u8>
     ensures { result ≡ byte_at line.now k }
 {
-    let f = number(field(line, k), 255);
-    match f {
-        OptionNumber::Some(n) => OptionByte::Some(n as u8),
-        OptionNumber::None => OptionByte::None,
-    }
+    Some(number(field(line, k), 255)? as u8)
 }
 
 // A number up to 65,535.
-pub fn half_at(line: &[u8], k: usize) -> OptionHalf
+#[tactic(auto, unfolding(crate::specs::Typed::half_at))]
+pub fn half_at(line: &[u8], k: usize) -> Option<u16>
     ensures { result ≡ half_at line.now k }
 {
-    let f = number(field(line, k), 65535);
-    match f {
-        OptionNumber::Some(n) => OptionHalf::Some(n as u16),
-        OptionNumber::None => OptionHalf::None,
-    }
+    Some(number(field(line, k), 65535)? as u16)
 }
 
 // A number up to 4,294,967,295.
-pub fn word_at(line: &[u8], k: usize) -> OptionWord
+#[tactic(auto, unfolding(crate::specs::Typed::word_at))]
+pub fn word_at(line: &[u8], k: usize) -> Option<u32>
     ensures { result ≡ word_at line.now k }
 {
-    let f = number(field(line, k), 0xFFFF_FFFF);
-    match f {
-        OptionNumber::Some(n) => OptionWord::Some(n as u32),
-        OptionNumber::None => OptionWord::None,
-    }
+    number(field(line, k), 0xFFFF_FFFF)
 }
 
 // 0 or 1.
-pub(crate) fn bit_at(line: &[u8], k: usize) -> OptionBit
+#[tactic(auto, unfolding(crate::specs::Typed::bit_at))]
+pub(crate) fn bit_at(line: &[u8], k: usize) -> Option<bool>
     ensures { result ≡ bit_at line.now k }
 {
-    let f = number(field(line, k), 1);
-    match f {
-        OptionNumber::Some(n) => OptionBit::Some(n == 1),
-        OptionNumber::None => OptionBit::None,
-    }
+    Some(number(field(line, k), 1)? == 1)
 }
 
 // A number up to `most`, as a length.
-pub fn length_at(line: &[u8], k: usize, most: u32) -> OptionCount
+#[tactic(auto, unfolding(crate::specs::Typed::length_at))]
+pub fn length_at(line: &[u8], k: usize, most: u32) -> Option<usize>
     ensures { result ≡ length_at line.now k most }
 {
-    let f = number(field(line, k), most);
-    match f {
-        OptionNumber::Some(n) => OptionCount::Some(n as usize),
-        OptionNumber::None => OptionCount::None,
-    }
+    Some(number(field(line, k), most)? as usize)
 }
 
 // `variable` is true, `fixed` false.
-pub(crate) fn type_at(line: &[u8], k: usize) -> OptionBit
+#[tactic(auto, unfolding(crate::specs::Typed::type_at, crate::specs::Typed::type_in), using(crate::proofs::Walks::words))]
+pub(crate) fn type_at(line: &[u8], k: usize) -> Option<bool>
     ensures { result ≡ type_at line.now k }
 {
-    if same(field(line, k), b"variable") {
-        return OptionBit::Some(true);
+    match field(line, k) {
+        b"variable" => Some(true),
+        b"fixed" => Some(false),
+        _ => None,
     }
-    if same(field(line, k), b"fixed") {
-        return OptionBit::Some(false);
-    }
-    OptionBit::None
 }
 
-// Two bytes, the low one first.
-fn half_pair(text: &[u8], i: usize) -> u16
-    requires { (2 * i + 3 < length text.now) × (all_digits 16 text.now ≡ true) }
-    ensures { result ≡ half_pair text.now i }
-{
-    pair_at(text, i) as u16 + 256 * (pair_at(text, i + 1) as u16)
-}
-
-fn setup_of(text: &[u8]) -> Setup
-    requires { (length text.now ≡ 16) × (all_digits 16 text.now ≡ true) }
-    ensures { result ≡ setup_of text.now }
+#[tactic(auto, unfolding(crate::specs::Typed::setup_of))]
+fn setup_of(pairs: &Pairs) -> Setup
+    requires { length pairs.now.digits.now ≡ 16 }
+    ensures { result ≡ setup_of pairs.now.digits.now }
 {
     Setup {
-        kind: pair_at(text, 0),
-        request: pair_at(text, 1),
-        value: half_pair(text, 2),
-        index: half_pair(text, 4),
-        length: half_pair(text, 6),
+        kind: pairs.byte(0),
+        request: pairs.byte(1),
+        value: pairs.half(2),
+        index: pairs.half(4),
+        length: pairs.half(6),
     }
 }
 
 // 8 bytes as on the wire.
-fn read_setup(text: &[u8]) -> OptionSetup
+#[tactic(auto, unfolding(crate::specs::Typed::setup_in))]
+fn read_setup(text: &[u8]) -> Option<Setup>
     ensures { result ≡ setup_in text.now }
 {
     if text.len() != 16 {
-        return OptionSetup::None;
+        return None;
     }
-    if !all_hex(text) {
-        return OptionSetup::None;
-    }
-    OptionSetup::Some(setup_of(text))
+    Some(setup_of(&Pairs::read(text)?))
 }
 
-pub(crate) fn setup_at(line: &[u8], k: usize) -> OptionSetup
+#[tactic(auto, unfolding(crate::specs::Typed::setup_at))]
+pub(crate) fn setup_at(line: &[u8], k: usize) -> Option<Setup>
     ensures { result ≡ setup_at line.now k }
 {
     read_setup(field(line, k))
 }
 
 // BYTES, put at the start of those lent.
-pub fn bytes_at(line: &[u8], k: usize, out: &mut [u8; 131072]) -> OptionCount
+#[tactic(auto, unfolding(crate::specs::Typed::count_at, crate::specs::Typed::stored_at))]
+pub fn bytes_at(line: &[u8], k: usize, out: &mut [u8; 131072]) -> Option<usize>
     ensures { (result ≡ count_at line.now k) × (out.new ≡ stored_at out.old line.now k) }
 {
     bytes(field(line, k), out)

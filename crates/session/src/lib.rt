@@ -1,14 +1,16 @@
-// What the programs that play a script share: their state, every line that begins no transfer, what a begin leaves, and the lines of a block.
+// What the programs that play a script share: the input's lines, the session that they leave behind, every line that begins no transfer, and the lines of a block.
 #![tactic(auto)]
 
+mod answers;
 mod armed;
 pub mod begin;
-pub mod effects;
+mod effects;
+pub mod log;
 mod pipes;
 pub mod play;
+pub mod player;
 pub mod print;
-pub mod read;
+mod read;
 mod runs;
 pub mod state;
 mod step;
-pub mod within;

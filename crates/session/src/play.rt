@@ -1,144 +1,168 @@
-// A line that begins no transfer.
-use crate::pipes::{close, detect, irq, open, poll};
-use crate::print::{block_end, end, item, ok};
-use crate::state::{State, fresh_state};
-use crate::within::within;
-use script::command::{Call, Lent, Stepping, Stored};
-use script::text::{put, put_pairs};
+// What a script's lines leave behind, and a line that begins no transfer.
+ghost use Rattle.std.specs.Prelude.{◌≡◌, ◌++◌, None, Some, OnOk, min, take, replicate, codes};
+ghost use Rattle.std.specs.Fmt.{decimal};
+ghost use Rattle.std.specs.Io.KnownBytes.{Appends};
+ghost use Rattle.script.specs.Text.{placed};
+ghost use Rattle.session.specs.Leaves.{desk_rule_of, IsFresh, Leaves};
+ghost use Rattle.session.specs.Prints.{Prints};
+ghost use Rattle.transfers.specs.declared.driver.DeskRule.TheVariants.{One};
+
+use crate::print::{print_block_end, print_ok};
+use crate::state::State;
+use printing::print_unreadable;
+use script::command::{Call, Lent, Rule, Stepping, Stored};
+use script::text::put;
+use std::io;
+use std::io::Write;
 use transfers::driver::DeskRule;
 
-fn unreadable(mut s: State, number: u64, out: &mut [u8]) -> State {
-    let at = put(out, s.at, b"line");
-    let at = item(out, at, number);
-    let at = put(out, at, b": not a line of a script");
-    let at = end(out, at);
-    s.at = block_end(out, at);
-    s
+// `length` bytes of `buf` are begin's buffer, `own` has a `buffer` line's bytes: as many as the next step is lent, where it is.
+// `bytes` are those that the line stored.
+#[derive(Drop)]
+pub struct Session {
+    pub state: State,
+    buf: [u8; 131072],
+    length: usize,
+    own: [u8; 131072],
+    lent: Option<usize>,
+    pub bytes: [u8; 131072],
 }
 
-fn done(mut s: State, out: &mut [u8]) -> State {
-    s.at = ok(out, s.at);
-    s
-}
-
-fn fresh(at: usize, rule: DeskRule, pm: &mut [u8], record: &mut [u8], out: &mut [u8]) -> State {
-    let mut s = fresh_state(rule, pm, record);
-    s.at = ok(out, at);
-    s
-}
-
-// The same desk rule again.
-fn fresh_again(s: State, pm: &mut [u8], record: &mut [u8], out: &mut [u8]) -> State {
-    let d = s.driver;
-    let rule = d.rule;
-    fresh(s.at, rule, pm, record, out)
-}
-
-fn desk_rule(number: u8) -> DeskRule {
-    if number == 2 {
-        DeskRule::Two
-    } else {
-        DeskRule::One
+fn desk_rule(rule: Rule) -> DeskRule
+    ensures { result ≡ desk_rule_of rule }
+{
+    match rule {
+        Rule::One => DeskRule::One,
+        Rule::Two => DeskRule::Two,
     }
 }
 
-fn lend(mut s: State, l: Lent, out: &mut [u8]) -> State {
-    s.memory = l.memory;
-    s.words = l.words;
-    done(s, out)
+// The block of a line that can't be read.
+pub(crate) fn unreadable<W: Write>(out: &mut W, number: usize) -> io::Result<()>
+    ensures { OnOk result (Appends (W.contents out.old) (W.contents out.new) (codes "line " ++ decimal number ++ codes ": not a line of a script\n.\n")) }
+{
+    print_unreadable(out, number)?;
+    print_block_end(out)
 }
 
-fn memory(s: State, m: Stored, pm: &mut [u8], bytes: &[u8], out: &mut [u8]) -> State {
-    let n = within(m.count, bytes);
-    put(pm, m.offset, &bytes[..n]);
-    done(s, out)
-}
-
-fn buffer(mut s: State, count: usize, own: &mut [u8], bytes: &[u8], out: &mut [u8]) -> State {
-    let n = within(count, bytes);
-    put(own, 0, &bytes[..n]);
-    s.lent = true;
-    s.own = n;
-    done(s, out)
-}
-
-fn print_record(out: &mut [u8], at: usize, refused: u8, record: &[u8]) -> usize {
-    if refused == 0 {
-        let at = put(out, at, b"record ");
-        return put_pairs(out, at, record);
+impl Session {
+    pub fn new() -> Session
+        ensures fresh { IsFresh One result.state }
+        ensures lent { result.lent ≡ None }
+        ensures length { result.length ≡ 0 }
+        ensures zeros { (result.buf ≡ replicate 131072 0) × (result.own ≡ replicate 131072 0) × (result.bytes ≡ replicate 131072 0) }
+    {
+        Session {
+            state: State::new(DeskRule::One),
+            buf: [0; 131072],
+            length: 0,
+            own: [0; 131072],
+            lent: None,
+            bytes: [0; 131072],
+        }
     }
-    let at = put(out, at, b"record refused");
-    item(out, at, refused as u64)
-}
 
-fn show_record(mut s: State, record: &[u8], out: &mut [u8]) -> State {
-    let n = within(s.used, record);
-    let at = print_record(out, s.at, s.refused, &record[..n]);
-    let at = end(out, at);
-    s.at = block_end(out, at);
-    s
-}
-
-fn step_in(
-    mut s: State,
-    c: Stepping,
-    pm: &mut [u8],
-    buf: &mut [u8],
-    own: &mut [u8],
-    bytes: &mut [u8; 131072],
-    record: &mut [u8],
-    out: &mut [u8],
-) -> State {
-    if s.lent {
-        s.lent = false;
-        return crate::step::step_in(s, c, s.own, pm, own, bytes, record, out);
+    fn refresh(&mut self, rule: DeskRule)
+        ensures { IsFresh rule self.new.state × (self.new.lent ≡ None) }
+    {
+        self.state.refresh(rule);
+        self.length = 0;
+        self.lent = None;
     }
-    crate::step::step_in(s, c, s.length, pm, buf, bytes, record, out)
-}
 
-fn step_out(
-    mut s: State,
-    c: Stepping,
-    pm: &mut [u8],
-    buf: &[u8],
-    own: &[u8],
-    record: &mut [u8],
-    out: &mut [u8],
-) -> State {
-    if s.lent {
-        s.lent = false;
-        return crate::step::step_out(s, c, s.own, pm, own, record, out);
+    // A begin that is not refused leaves its buffer to the steps.
+    pub fn keep(&mut self, count: usize, bulk: bool)
+        ensures { self.new.state ≡ record self.old.state { bulk = bulk } }
+    {
+        let n = count.min(131072);
+        put(&mut self.buf, 0, &self.bytes[..n]);
+        self.length = n;
+        self.state.bulk = bulk;
     }
-    crate::step::step_out(s, c, s.length, pm, buf, record, out)
-}
 
-pub fn run(
-    s: State,
-    number: u64,
-    c: Call,
-    pm: &mut [u8],
-    buf: &mut [u8],
-    own: &mut [u8],
-    bytes: &mut [u8; 131072],
-    record: &mut [u8],
-    out: &mut [u8],
-) -> State {
-    match c {
-        Call::Skipped => s,
-        Call::Wrong => unreadable(s, number, out),
-        Call::Fresh => fresh_again(s, pm, record, out),
-        Call::Rule(n) => fresh(s.at, desk_rule(n), pm, record, out),
-        Call::Lend(l) => lend(s, l, out),
-        Call::Memory(m) => memory(s, m, pm, bytes, out),
-        Call::Buffer(n) => buffer(s, n, own, bytes, out),
-        Call::StepIn(c) => step_in(s, c, pm, buf, own, bytes, record, out),
-        Call::StepOut(c) => step_out(s, c, pm, buf, own, record, out),
-        Call::Cancel => crate::step::cancel(s, pm, record, out),
-        Call::Open(c) => open(s, c, out),
-        Call::Close(n) => close(s, n, out),
-        Call::Poll(c) => poll(s, c, pm, out),
-        Call::Irq(c) => irq(s, c, out),
-        Call::Detect(x) => detect(s, x, out),
-        Call::Record => show_record(s, record, out),
+    fn lend(&mut self, l: Lent)
+        ensures { self.new.state ≡ record self.old.state { memory = l.memory; words = l.words } }
+    {
+        self.state.memory = l.memory;
+        self.state.words = l.words;
+    }
+
+    fn memory(&mut self, m: Stored)
+        ensures { self.new.state ≡ record self.old.state { pm = placed self.old.state.pm m.offset (take m.count self.old.bytes) } }
+    {
+        let n = m.count.min(131072);
+        put(&mut self.state.pm, m.offset, &self.bytes[..n]);
+    }
+
+    fn buffer(&mut self, count: usize)
+        ensures own { self.new.own ≡ placed self.old.own 0 (take count self.old.bytes) }
+        ensures lent { self.new.lent ≡ Some (min count 131072) }
+    {
+        let n = count.min(131072);
+        put(&mut self.own, 0, &self.bytes[..n]);
+        self.lent = Some(n);
+    }
+
+    fn step_in<W: Write>(&mut self, c: Stepping, out: &mut W) -> io::Result<()> {
+        match self.lent.take() {
+            Some(n) => {
+                let own = &mut self.own[..];
+                let lent = &mut own[..n.min(131072)];
+                self.state.step_in(c, lent, &mut self.bytes, out)
+            }
+            None => {
+                let n = self.length.min(131072);
+                let buf = &mut self.buf[..];
+                self.state.step_in(c, &mut buf[..n], &mut self.bytes, out)
+            }
+        }
+    }
+
+    fn step_out<W: Write>(&mut self, c: Stepping, out: &mut W) -> io::Result<()> {
+        let n = self.length.min(131072);
+        match self.lent.take() {
+            Some(own) => self.state.step_out(c, &self.own[..own.min(131072)], out),
+            None => self.state.step_out(c, &self.buf[..n], out),
+        }
+    }
+
+    // The blocks of the lines that call the driver are held by the programs' stored output.
+    pub fn run<W: Write>(&mut self, number: usize, c: Call, out: &mut W) -> io::Result<()>
+        ensures leaves { Leaves c self.old self.new }
+        ensures prints { OnOk result (Prints c number (W.contents out.old) (W.contents out.new)) }
+    {
+        match c {
+            Call::Skipped => Ok(()),
+            Call::Wrong => unreadable(out, number),
+            Call::Fresh => {
+                self.refresh(self.state.driver.rule);
+                print_ok(out)
+            }
+            Call::Rule(rule) => {
+                self.refresh(desk_rule(rule));
+                print_ok(out)
+            }
+            Call::Lend(l) => {
+                self.lend(l);
+                print_ok(out)
+            }
+            Call::Memory(m) => {
+                self.memory(m);
+                print_ok(out)
+            }
+            Call::Buffer(n) => {
+                self.buffer(n);
+                print_ok(out)
+            }
+            Call::StepIn(c) => self.step_in(c, out),
+            Call::StepOut(c) => self.step_out(c, out),
+            Call::Cancel => self.state.cancel(out),
+            Call::Open(c) => self.state.open(c, out),
+            Call::Close(n) => self.state.close(n, out),
+            Call::Poll(c) => self.state.poll(c, out),
+            Call::Irq(c) => self.state.irq(c, out),
+            Call::Detect(x) => self.state.detect(x, out),
+            Call::Record => self.state.print_record(out),
+        }
     }
 }

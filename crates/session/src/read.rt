@@ -1,133 +1,108 @@
 // Standard input, line by line.
-ghost use Rattle.std.specs.Prelude.{◌+◌, ◌<◌, length};
-
-use crate::within::{least, within};
 use script::field::end_of;
 use script::line::is_skipped;
 use script::text::put;
 use std::io;
 use std::io::Read;
 
-// `from` to `to` of the chunk is still to be read. The first `length` bytes of the line are of line number `lines` + 1, of which a
-// part is there if `begun`, and for which there was no room if `long`. `whole`: they are line number `lines`.
+// What one turn of reading comes to: a line is whole, more of it is to be read, or the input has ended.
 #[derive(Clone, Copy)]
-pub struct Place {
-    pub from: usize,
-    pub to: usize,
-    pub length: usize,
-    pub long: bool,
-    pub lines: u64,
-    pub begun: bool,
-    pub whole: bool,
-    pub ended: bool,
+pub(crate) enum Turn {
+    Whole,
+    Part,
+    End,
 }
 
-pub fn start() -> Place {
-    Place {
-        from: 0,
-        to: 0,
-        length: 0,
-        long: false,
-        lines: 0,
-        begun: false,
-        whole: false,
-        ended: false,
+// `from` to `to` of the chunk is still to be read. The first `length` bytes of the line are those of line number `number` if it is whole,
+// else of the next one, of which a part is there if `begun`; there was no room for more if `long`.
+#[derive(Drop)]
+pub(crate) struct Lines {
+    chunk: [u8; 65536],
+    from: usize,
+    to: usize,
+    line: [u8; 300000],
+    length: usize,
+    long: bool,
+    number: usize,
+    begun: bool,
+    ended: bool,
+}
+
+impl Lines {
+    pub(crate) fn new() -> Lines {
+        Lines {
+            chunk: [0; 65536],
+            from: 0,
+            to: 0,
+            line: [0; 300000],
+            length: 0,
+            long: false,
+            number: 0,
+            begun: false,
+            ended: false,
+        }
     }
-}
 
-// Bytes were to be put, and none were.
-fn is_short(before: usize, after: usize, n: usize) -> bool {
-    if before != after {
-        return false;
+    // The line is whole.
+    fn whole(&mut self) -> Turn {
+        self.begun = false;
+        self.number = self.number.saturating_add(1);
+        Turn::Whole
     }
-    0 < n
-}
 
-fn ended(mut p: Place) -> Place {
-    p.whole = true;
-    p.begun = false;
-    if p.lines < u64::MAX {
-        p.lines = p.lines + 1;
+    // After a whole line, the next one starts anew.
+    fn begin(&mut self) {
+        if !self.begun {
+            self.begun = true;
+            self.length = 0;
+            self.long = false;
+        }
     }
-    p
-}
 
-// The chunk has `got` bytes more, none at the input's end.
-fn filled(mut p: Place, got: usize) -> Place {
-    p.from = 0;
-    p.to = got;
-    if got > 0 {
-        return p;
+    // Takes the chunk's text up to the line's end, or all of it.
+    fn take(&mut self) -> Turn {
+        self.begin();
+        let text = self.chunk.get(self.from..self.to).unwrap_or_default();
+        let n = end_of(text, b'\n');
+        let end = put(&mut self.line, self.length, &text[..n]);
+        self.long = self.long || end == self.length && n > 0;
+        self.length = end;
+        if n == text.len() {
+            self.from = self.to;
+            return Turn::Part;
+        }
+        self.from += n + 1;
+        self.whole()
     }
-    p.ended = true;
-    if p.begun {
-        return ended(p);
+
+    // The input has no more: a last line without a line feed is whole.
+    fn end(&mut self) -> Turn {
+        self.ended = true;
+        if self.begun { self.whole() } else { Turn::End }
     }
-    p
-}
 
-fn refill<R: Read>(p: Place, input: &mut R, chunk: &mut [u8]) -> io::Result<Place> {
-    let got = input.read(chunk)?;
-    Ok(filled(p, got))
-}
-
-// Takes the text up to the line's end, or all of it.
-fn take_line(mut p: Place, from: usize, text: &[u8], line: &mut [u8]) -> Place
-    requires { from + length text.now < 0x1_0000_0000_0000_0000 }
-{
-    let e = end_of(text, b'\n');
-    let n = put(line, p.length, &text[..e]);
-    p.long = p.long || is_short(p.length, n, e);
-    p.length = n;
-    p.begun = true;
-    if e < text.len() {
-        p.from = from + e + 1;
-        return ended(p);
+    // One turn: a line's bytes are taken from the chunk, or the chunk is filled again.
+    pub(crate) fn turn<R: Read>(&mut self, input: &mut R) -> io::Result<Turn> {
+        if self.ended {
+            return Ok(Turn::End);
+        }
+        if self.from < self.to {
+            return Ok(self.take());
+        }
+        self.to = input.read(&mut self.chunk)?;
+        self.from = 0;
+        Ok(if self.to > 0 { Turn::Part } else { self.end() })
     }
-    p.from = p.to;
-    p
-}
 
-fn next_line(p: Place, chunk: &[u8], line: &mut [u8]) -> Place {
-    let to = within(p.to, chunk);
-    let from = least(p.from, to);
-    take_line(p, from, &chunk[from..to], line)
-}
-
-// After a line, the next one starts anew.
-fn anew(mut p: Place) -> Place {
-    if p.whole {
-        p.whole = false;
-        p.long = false;
-        p.length = 0;
+    // The number of the line that is whole.
+    pub(crate) fn number(&self) -> usize {
+        self.number
     }
-    p
-}
 
-// One turn: the chunk is filled again, or a line's bytes are taken from it.
-pub fn turn<R: Read>(
-    p: Place,
-    input: &mut R,
-    chunk: &mut [u8; 65536],
-    line: &mut [u8; 300000],
-) -> io::Result<Place> {
-    let q = anew(p);
-    if q.from < q.to {
-        return Ok(next_line(q, chunk, line));
+    // Its text. One that is too long can't be read, but a comment is skipped like any other.
+    pub(crate) fn text(&self) -> Option<&[u8]> {
+        let text = self.line.get(..self.length).unwrap_or_default();
+        let readable = !self.long || is_skipped(text);
+        readable.then_some(text)
     }
-    refill(q, input, chunk)
-}
-
-// The line's bytes.
-pub fn text_of<'a>(p: Place, line: &'a [u8]) -> &'a [u8] {
-    let n = within(p.length, line);
-    &line[..n]
-}
-
-// A line that is too long can't be read, but a comment is skipped like any other.
-pub fn is_too_long(p: Place, text: &[u8]) -> bool {
-    if !p.long {
-        return false;
-    }
-    !is_skipped(text)
 }

@@ -1,83 +1,114 @@
-// What a script's lines leave behind, beside packet memory, buffers and record.
-use record::refusal::number;
-use record::writer::{AppendAnswer, append};
-use script::text::put;
-use transfers::answers::{Armed, OptionEntries, OptionOut, OptionSetup};
+// What a script's lines leave behind, beside the buffers.
+ghost use Rattle.std.specs.Prelude.{◌≡◌, take, None, OnOk, IfOk};
+ghost use Rattle.record.specs.Writer.{append_of, Appended};
+ghost use Rattle.session.specs.Leaves.{IsFresh};
+
+use crate::effects::print_effects;
+use crate::log::Log;
+use crate::print::print_block_end;
+use printing::Hex;
+use record::refusal::Refusal;
+use record::writer::append;
+use std::io;
+use std::io::Write;
+use transfers::answers::Armed;
 use transfers::driver::{DeskRule, Driver};
 
-// `memory` and `words` are lent to the calls. `length` is that of begin's buffer, `bulk` begin's kind; `own` is the length of a
-// `buffer` line's bytes, which the next step is lent if `lent` says so. The record has `used` bytes, or was refused.
-// `at` is the place in the output.
-#[derive(Clone, Copy)]
+// `memory` bytes of packet memory and `words` of the log are lent to the calls. `bulk` is begin's kind. The record has `used` bytes,
+// or was refused.
+#[derive(Drop)]
 pub struct State {
     pub driver: Driver,
+    pub pm: [u8; 4096],
     pub memory: usize,
     pub words: usize,
-    pub length: usize,
     pub bulk: bool,
-    pub lent: bool,
-    pub own: usize,
-    pub used: usize,
-    pub refused: u8,
-    pub at: usize,
+    record: [u8; 131072],
+    used: Result<usize, Refusal>,
 }
 
-pub fn nothing_armed() -> Armed {
-    Armed {
-        setup: OptionSetup::None,
-        first: OptionOut::None,
-        second: OptionOut::None,
+// `transfers`' own `nothing_armed` is of its crate alone.
+pub(crate) const NOTHING_ARMED: Armed = Armed {
+    setup: None,
+    first: None,
+    second: None,
+};
+
+impl State {
+    pub(crate) fn new(rule: DeskRule) -> State
+        ensures { IsFresh rule result }
+    {
+        let mut state = State {
+            driver: Driver::new(rule),
+            pm: [0; 4096],
+            memory: 0,
+            words: 0,
+            bulk: false,
+            record: [0; 131072],
+            used: Ok(0),
+        };
+        state.refresh(rule);
+        state
     }
-}
 
-fn empty_state(rule: DeskRule) -> State {
-    State {
-        driver: Driver::new(rule),
-        memory: 4096,
-        words: 192,
-        length: 0,
-        bulk: false,
-        lent: false,
-        own: 0,
-        used: 0,
-        refused: 0,
-        at: 0,
+    // As after `fresh`, with a driver of this desk rule.
+    pub(crate) fn refresh(&mut self, rule: DeskRule)
+        ensures { IsFresh rule self.new }
+    {
+        self.driver = Driver::new(rule);
+        self.pm = [0; 4096];
+        self.memory = 4096;
+        self.words = 192;
+        self.bulk = false;
+        self.used = Ok(0);
+        self.write_record(NOTHING_ARMED, None);
     }
-}
 
-// As after `fresh`, with a driver of this desk rule.
-pub fn fresh_state(rule: DeskRule, pm: &mut [u8], record: &mut [u8]) -> State {
-    let zeros = [0u8; 4096];
-    put(pm, 0, &zeros);
-    write_record(
-        empty_state(rule),
-        nothing_armed(),
-        OptionEntries::None,
-        pm,
-        record,
-    )
-}
-
-// Appends what a call armed, or the count of a transfer that failed; a refusal stands until the next `fresh`.
-pub fn write_record(
-    mut s: State,
-    armed: Armed,
-    failed: OptionEntries,
-    pm: &[u8],
-    record: &mut [u8],
-) -> State {
-    if s.refused != 0 {
-        return s;
+    // The packet memory that a call is lent.
+    pub fn lent(&self) -> &[u8]
+        ensures { result.now ≡ take self.now.memory self.now.pm }
+    {
+        &self.pm[..self.memory.min(4096)]
     }
-    let a = append(armed, failed, pm, record, s.used);
-    match a {
-        AppendAnswer::Used(n) => {
-            s.used = n;
-            s
+
+    pub fn lent_mut(&mut self) -> &mut [u8]
+        ensures { result.now ≡ take self.old.memory self.old.pm }
+    {
+        &mut self.pm[..self.memory.min(4096)]
+    }
+
+    // Appends what a call armed, or the count of a transfer that failed; a refusal stands until the next `fresh`.
+    pub(crate) fn write_record(&mut self, armed: Armed, failed: Option<u32>)
+        ensures rest { self.new ≡ record self.old { «record» = self.new.«record»; used = self.new.used } }
+        ensures appended { IfOk self.old.used (λ used. Appended (append_of armed failed self.old.pm self.old.«record» used) self.new.used self.new.«record») }
+    {
+        if let Ok(used) = self.used {
+            self.used = append(armed, failed, &self.pm, &mut self.record, used);
         }
-        AppendAnswer::Refused(r) => {
-            s.refused = number(r);
-            s
+    }
+
+    pub(crate) fn print_record<W: Write>(&self, out: &mut W) -> io::Result<()> {
+        match self.used {
+            Ok(used) => writeln!(out, "record {}", Hex(&self.record[..used.min(131072)]))?,
+            Err(why) => writeln!(out, "record refused {}", u8::from(why))?,
         }
+        print_block_end(out)
+    }
+
+    // The block of a begin after its answer, and the record. The block's lines are held by the programs' stored output.
+    pub fn finish<W: Write>(
+        &mut self,
+        armed: Armed,
+        writes: usize,
+        old: &[u8; 4096],
+        log: &Log,
+        out: &mut W,
+    ) -> io::Result<()>
+        ensures rest { self.new ≡ record self.old { «record» = self.new.«record»; used = self.new.used } }
+        ensures appended { OnOk result (IfOk self.old.used (λ used. Appended (append_of armed None self.old.pm self.old.«record» used) self.new.used self.new.«record»)) }
+    {
+        print_effects(out, log, writes, armed, old, &self.pm)?;
+        self.write_record(armed, None);
+        print_block_end(out)
     }
 }

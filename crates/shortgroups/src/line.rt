@@ -1,57 +1,56 @@
 // A line of the input.
 ghost use Rattle.std.specs.Prelude.{◌≡◌};
-ghost use Rattle.shortgroups.specs.Lines.{limit_of, lent_of, line_of};
+ghost use Rattle.shortgroups.specs.Lines.{limit_of, lent_of, asked_of, line_of};
 
+use input::Unreadable;
 use script::line::is_skipped;
-use script::typed::{OptionByte, byte_at, fields};
+use script::typed::{byte_at, fields};
 
-// What a line asks for: the list for a limit, in as many lent bytes. `Skipped` is an empty line or a comment, `Wrong` a line that can't be read.
+// The list for a limit, in as many lent bytes.
 #[derive(Clone, Copy)]
-pub enum Command {
-    Skipped,
-    Wrong,
-    List(u8, u8),
+pub struct Listing {
+    pub limit: u8,
+    pub room: u8,
 }
 
 // `N`.
-fn read_limit(line: &[u8]) -> Command
+#[tactic(auto, unfolding(crate::specs::Lines::limit_of))]
+fn read_limit(line: &[u8]) -> Option<Listing>
     ensures { result ≡ limit_of line.now }
 {
-    let f0 = byte_at(line, 0);
-    match f0 {
-        OptionByte::Some(n) => Command::List(n, 255),
-        OptionByte::None => Command::Wrong,
-    }
+    let limit = byte_at(line, 0)?;
+    Some(Listing { limit, room: 255 })
 }
 
 // `N ROOM`.
-fn read_lent(line: &[u8]) -> Command
+#[tactic(auto, unfolding(crate::specs::Lines::lent_of))]
+fn read_lent(line: &[u8]) -> Option<Listing>
     ensures { result ≡ lent_of line.now }
 {
-    let f0 = byte_at(line, 0);
-    let OptionByte::Some(n) = f0 else {
-        return Command::Wrong;
-    };
-    let f1 = byte_at(line, 1);
-    let OptionByte::Some(room) = f1 else {
-        return Command::Wrong;
-    };
-    Command::List(n, room)
+    let limit = byte_at(line, 0)?;
+    let room = byte_at(line, 1)?;
+    Some(Listing { limit, room })
 }
 
-// What a line without its LF asks for.
-pub fn parse(line: &[u8]) -> Command
+#[tactic(auto, unfolding(crate::specs::Lines::asked_of))]
+fn read_listing(line: &[u8]) -> Option<Listing>
+    ensures { result ≡ asked_of line.now }
+{
+    match fields(line) {
+        1 => read_limit(line),
+        2 => read_lent(line),
+        _ => None,
+    }
+}
+
+// What a line without its LF asks for, nothing if it is skipped.
+#[tactic(auto, unfolding(crate::specs::Lines::line_of))]
+pub fn parse(line: &[u8]) -> Result<Option<Listing>, Unreadable>
     ensures { result ≡ line_of line.now }
 {
     if is_skipped(line) {
-        return Command::Skipped;
+        return Ok(None);
     }
-    let n = fields(line);
-    if n == 1 {
-        return read_limit(line);
-    }
-    if n == 2 {
-        return read_lent(line);
-    }
-    Command::Wrong
+    let listing = read_listing(line).ok_or(Unreadable)?;
+    Ok(Some(listing))
 }

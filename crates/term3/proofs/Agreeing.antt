@@ -1,27 +1,24 @@
 -- What the calls tell of the callers agrees with the state that they leave. Assumes nothing.
+use Rattle.std.specs.Prelude.{Err, Ok, Result}
 use mathlib.Core.Path.{◌≡◌, refl, sym, ap, subst, ◌∙◌}
 use mathlib.Core.Bool.{Bool, true, false, cond, true≢false}
 use mathlib.Core.List.{List}
 use Prim.Native.Nat.{ℕ, ◌<◌}
 use native.Mathlib.Omega.{arith}
-use lib.ListN.{length, get_or, set, length-set, get_or-replicate}
+use lib.ListN.{length, get_or, set, length-set}
 use lib.Seq.{get_or-set_same, get_or-set_other}
 use lib.Dec.{eqb, leb}
 use borrow.Author.Tests.{eqb-true, eqb-false}
 use Rattle.transfers.specs.declared.wire.Direction.TheVariants.{In, Out}
-use Rattle.transfers.specs.declared.refusal.OptionRefusal.{OptionRefusal}
-use Rattle.transfers.specs.declared.refusal.OptionRefusal.TheVariants.{Some, None}
 use Rattle.transfers.specs.declared.driver.Driver.{Driver}
 use Rattle.dispatcher.specs.declared.Dispatcher.{Dispatcher}
 use Rattle.dispatcher.specs.Dispatcher.{pending_at, requested_at, quota_at, observes}
 use Rattle.dispatcher.specs.Dispatcher as T
 use Rattle.dispatcher.specs.Events.{Event, submitted, observed, started, ended, nothing, moved, idle_after}
-use Rattle.dispatcher.proofs.Rooms.{zeros}
-use Rattle.dispatcher.proofs.Turning.{Good, look_good, fresh_good}
+use Rattle.dispatcher.proofs.Rooms.{kept_frame, length_frame}
+use Rattle.dispatcher.proofs.Turning.{Good, look_good, fresh_at, fresh_share, fresh_good}
 use Rattle.dispatcher.proofs.Passing.{current_same}
-use Rattle.host.specs.declared.answers.SubmitAnswer.TheVariants.{Accepted}
-use Rattle.host.specs.declared.answers.StartAnswer.TheVariants.{Started}
-use Rattle.host.specs.declared.fields.Submission.{Submission}
+use Rattle.host.specs.declared.fields.Fields.{Fields}
 use Rattle.host.specs.declared.controller.HostController.{HostController}
 use Rattle.host.specs.Fields.{no_fields, requested_of, fields_refused}
 use Rattle.host.specs.Controller.{idle, dispatcher_now, fields_at, observed as looked_at, turn_of, with_driver}
@@ -37,6 +34,7 @@ use Rattle.term3.specs.Callers.{Coming, requested_by, Callers, no_callers, put, 
 use Rattle.term3.specs.HostCalls.{Made, fresh_for}
 use Rattle.term3.proofs.Fair.{event_of, Fair, good_next, Asks, fair}
 use Rattle.term3.proofs.Same.{Same, same_finds, same_frame, same_joins, same_looks, put_false, same_runs, same_ends}
+use Rattle.transfers.specs.declared.refusal.Refusal.{Refusal}
 
 pub record Agrees (t : Callers) (d : HostController) : Type 0 where
   pub good : Good (idle d) (dispatcher_now d)
@@ -68,46 +66,45 @@ moves t d e x f s = subst (λ (i : Bool). Same t i (dispatcher_now e)) (sym f.id
 
 put_came : (t : Callers) (d : HostController) (c : ℕ) (x : Begin) (n e : ℕ) → c < length d.submissions → (t.waits e ≡ true → fields_of (t.came e).fields (t.came e).length ≡ fields_at d e) → put t.waits c true e ≡ true
     → let y = put t.came c (record { fields = x; length = n }) e in
-    fields_of y.fields y.length ≡ (get_or (set d.submissions c (record { fields = fields_of x n })) e (record { fields = no_fields })).fields
+    fields_of y.fields y.length ≡ get_or (set d.submissions c (fields_of x n)) e no_fields
 put_came t d c x n e h q w = go (eqb e c) refl w
   where
-    subs : List Submission
-    subs = set d.submissions c (record { fields = fields_of x n })
+    subs : List Fields
+    subs = set d.submissions c (fields_of x n)
 
     go : (b : Bool) → eqb e c ≡ b → cond b true (t.waits e) ≡ true → let y : Coming = cond b (record { fields = x; length = n }) (t.came e) in
-        fields_of y.fields y.length ≡ (get_or subs e (record { fields = no_fields })).fields
+        fields_of y.fields y.length ≡ get_or subs e no_fields
     go true p v =
-        sym (ap (λ (z : ℕ). (get_or subs z (record { fields = no_fields })).fields) (eqb-true e c p)
-        ∙ ap (λ (s : Submission). s.fields) (get_or-set_same d.submissions c (record { fields = fields_of x n }) (record { fields = no_fields }) h))
-    go false p v = q v ∙ sym (ap (λ (s : Submission). s.fields) (get_or-set_other d.submissions c e (record { fields = fields_of x n }) (record { fields = no_fields }) (eqb-false e c p)))
+        sym (ap (λ (z : ℕ). get_or subs z no_fields) (eqb-true e c p) ∙ get_or-set_same d.submissions c (fields_of x n) no_fields h)
+    go false p v = q v ∙ sym (get_or-set_other d.submissions c e (fields_of x n) no_fields (eqb-false e c p))
 
 pub coming_same : (t : Callers) (i : Bool) (u : Dispatcher) (c : ℕ) (x : Begin) (n f : ℕ) → Good i u → Same t i u → c < 8
-    → Same (hears t (submit c x n f) Accepted) i (T.submits i u c (requested_of (fields_of x n)) f)
+    → Same (hears t (submit c x n f) (Ok tt)) i (T.submits i u c (requested_of (fields_of x n)) f)
 coming_same t i u c x n f g s h =
     let y : Coming = record { fields = x; length = n } in
     let p = g.pre in
-    subst (λ (b : ℕ). Same (hears t (submit c x n f) Accepted) i (T.submits i u c b f)) (sym (requested_same x n))
-    (same_finds (joins (in_frame t f) c y) i (T.with_pending (T.in_frame u f) c (requested_by x n)) (same_joins (in_frame t f) i (T.in_frame u f) c y (same_frame t i u f s) h p.pending8 p.requested8) p.last8)
+    subst (λ (b : ℕ). Same (hears t (submit c x n f) (Ok tt)) i (T.submits i u c b f)) (sym (requested_same x n))
+    (same_finds (joins (in_frame t f) c y) i (T.with_pending (T.in_frame u f) c (requested_by x n)) (same_joins (in_frame t f) i (T.in_frame u f) c y (same_frame t i u f s) h (length_frame (eqb f u.frame) u.callers ∙ p.callers8)) p.last8)
 
 submit_agrees : (t : Callers) (d : HostController) (c : ℕ) (x : Begin) (n f : ℕ) → Agrees t d → let o = submit_of d c (fields_of x n) f in
     Fair d o.next (event_of (submit c x n f) o.answer) → Agrees (hears t (submit c x n f) o.answer) o.next
 unfolding submit_of
 submit_agrees t d c x n f h v = go (leb c 7) (pending_at d.dispatcher c) (leb (requested_of (fields_of x n)) (quota_at d.dispatcher c)) (fields_refused (fields_of x n)) v
   where
-    go : (a w q : Bool) (r : OptionRefusal) → let y = submit_answer a w q r in let e = submit_next y d c (fields_of x n) f in Fair d e (event_of (submit c x n f) y) → Agrees (hears t (submit c x n f) y) e
+    go : (a w q : Bool) (r : Result (Unit {0}) Refusal) → let y = submit_answer a w q r in let e = submit_next y d c (fields_of x n) f in Fair d e (event_of (submit c x n f) y) → Agrees (hears t (submit c x n f) y) e
     go false w q r v = h
     go true true q r v = h
     go true false false r v = h
-    go true false true (Some why) v = h
-    go true false true None v =
-        let e = submit_next Accepted d c (fields_of x n) f in
+    go true false true (Err why) v = h
+    go true false true (Ok tt) v =
+        let e = submit_next (Ok tt) d c (fields_of x n) f in
         let b = requested_of (fields_of x n) in
         let small = v.allowed.0 in
         let s = h.submissions8 in
         record {
           good = good_next d e (submitted c b f) v h.good;
-          same = moves (hears t (submit c x n f) Accepted) d e (submitted c b f) v (coming_same t (idle d) (dispatcher_now d) c x n f h.good h.same small);
-          submissions8 = length-set d.submissions c (record { fields = fields_of x n }) ∙ h.submissions8;
+          same = moves (hears t (submit c x n f) (Ok tt)) d e (submitted c b f) v (coming_same t (idle d) (dispatcher_now d) c x n f h.good h.same small);
+          submissions8 = length-set d.submissions c (fields_of x n) ∙ h.submissions8;
           came = λ z k w. put_came t d c x n z (omega (arith, s, small)) (h.came z k) w;
         }
 
@@ -140,8 +137,9 @@ start_agrees t d k f buf m log h v = go (start_is d k f buf m log) v
         let g = (look_good (idle d) (dispatcher_now d) f h.good).pre in
         record {
           good = good_next d e (started c f) v h.good;
-          same = moves (hears t (start k f buf m log) (Started c)) d e (started c f) v
-              (same_runs (looks t f) (idle d) u c (same_looks t (idle d) (dispatcher_now d) f h.same h.good.pre.last8) b.small g.pending8 g.used8 v.allowed.3);
+          same = moves (hears t (start k f buf m log) (Ok c)) d e (started c f) v
+              (subst (λ (n : ℕ). Same (hears t (start k f buf m log) (Ok c)) false (T.starts u c n)) (kept_frame (dispatcher_now d) f c).1
+              (same_runs (looks t f) (idle d) u c (same_looks t (idle d) (dispatcher_now d) f h.same h.good.pre.last8) b.small g.callers8 v.allowed.3));
           submissions8 = h.submissions8;
           came = λ z q w. h.came z q (put_false t.waits c z w);
         })
@@ -176,12 +174,12 @@ agrees_next t d (driver c b) h = driver_agrees t d (D.call d.driver c).next (is_
 fresh_same : (shares : List ℕ) → Same (no_callers shares) true (T.fresh shares)
 fresh_same shares = record {
   busy = refl;
-  waits = λ c h. sym (get_or-replicate 8 c false false h);
+  waits = λ c h. sym (fresh_at shares c).0;
   asks = λ c h w. absurd (true≢false (sym w));
   last = refl;
   turn = refl;
-  share = λ c h. refl;
-  spent = λ c h. sym (zeros 8 c);
+  share = λ c h. sym (fresh_share shares c h);
+  spent = λ c h. sym (fresh_at shares c).1;
   frame = refl;
 }
 

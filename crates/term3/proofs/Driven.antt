@@ -1,4 +1,5 @@
 -- `Driven`, proved. Assumes nothing.
+use Rattle.std.specs.Prelude.{Err, Result}
 use mathlib.Core.Path.{◌≡◌, refl, sym, ap, subst}
 use mathlib.Core.List.{List, []}
 use Prim.Native.Nat.{ℕ}
@@ -6,9 +7,6 @@ use native.Mathlib.Omega.{arith}
 use Rattle.transfers.specs.declared.refusal.Refusal.{Refusal}
 use Rattle.transfers.specs.Answers.{nothing_armed}
 use Rattle.host.specs.declared.answers.SubmitRefusal.{SubmitRefusal}
-use Rattle.host.specs.declared.answers.SubmitAnswer.{SubmitAnswer}
-use Rattle.host.specs.declared.answers.SubmitAnswer.TheVariants.{Refused as refused_submit}
-use Rattle.host.specs.declared.answers.StartAnswer.TheVariants.{Refused as start_refused}
 use Rattle.host.specs.declared.fields.Fields.{Fields}
 use Rattle.host.specs.declared.controller.HostController.{HostController}
 use Rattle.host.specs.Submit.{submit_next, submit_of}
@@ -23,16 +21,16 @@ use Rattle.term3.proofs.Agreeing.{fresh_agrees}
 use Rattle.term3.proofs.Shadow.{start_begins, submit_driver}
 use Rattle.term3.proofs.Turns.{agrees_after}
 
-refused_coming : (d : HostController) (c : ℕ) (x : Fields) (f : ℕ) (why : SubmitRefusal) → (submit_of d c x f).answer ≡ refused_submit why → (submit_of d c x f).next ≡ d
+refused_coming : (d : HostController) (c : ℕ) (x : Fields) (f : ℕ) (why : SubmitRefusal) → (submit_of d c x f).answer ≡ Err why → (submit_of d c x f).next ≡ d
 unfolding submit_of
-refused_coming d c x f why e = ap (λ (a : SubmitAnswer). submit_next a d c x f) e
+refused_coming d c x f why e = ap (λ (a : Result (Unit {0}) SubmitRefusal). submit_next a d c x f) e
 
-refused_start_lem : (d : HostController) (k : StartKind) (f : ℕ) (buf m log : List ℕ) (why : Refusal) → let o = start_of d k f buf m log in o.answer ≡ start_refused why
+refused_start_lem : (d : HostController) (k : StartKind) (f : ℕ) (buf m log : List ℕ) (why : Refusal) → let o = start_of d k f buf m log in o.answer ≡ Err why
     → (o.next ≡ d) × (o.writes ≡ []) × (o.memory ≡ m) × (o.armed ≡ nothing_armed)
 refused_start_lem d k f buf m log why q = go (start_is d k f buf m log) q
   where
     Goes : Starting → Type 0
-    Goes o = o.answer ≡ start_refused why → (o.next ≡ d) × (o.writes ≡ []) × (o.memory ≡ m) × (o.armed ≡ nothing_armed)
+    Goes o = o.answer ≡ Err why → (o.next ≡ d) × (o.writes ≡ []) × (o.memory ≡ m) × (o.armed ≡ nothing_armed)
 
     go : Start d k f buf m log → Goes (start_of d k f buf m log)
     go (refused_start w e) = subst Goes (sym e) (λ q. (refl, refl, refl, refl))

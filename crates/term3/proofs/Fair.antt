@@ -1,11 +1,10 @@
 -- What every call does to the turns is what the dispatcher's events say of them. Assumes nothing.
+use Rattle.std.specs.Prelude.{Err, Ok, Result}
 use mathlib.Core.Path.{◌≡◌, refl, sym, ap, subst, ◌∙◌}
 use mathlib.Core.Bool.{Bool, true, false, cond}
 use mathlib.Core.List.{List}
 use Prim.Native.Nat.{ℕ, ◌<◌}
 use lib.Dec.{leb}
-use Rattle.transfers.specs.declared.refusal.OptionRefusal.{OptionRefusal}
-use Rattle.transfers.specs.declared.refusal.OptionRefusal.TheVariants.{Some, None}
 use Rattle.transfers.specs.Calls.{is_idle}
 use Rattle.dispatcher.specs.declared.Dispatcher.{Dispatcher}
 use Rattle.dispatcher.specs.Dispatcher.{pending_at, requested_at, quota_at, fits, passes, current, submits, observes, starts}
@@ -13,8 +12,6 @@ use Rattle.dispatcher.specs.Events.{Event, submitted, observed, started, ended, 
 use Rattle.dispatcher.proofs.Rounds.{below}
 use Rattle.dispatcher.proofs.Turning.{Good, look_good, move_good}
 use Rattle.dispatcher.proofs.Passing.{current_ended, current_same}
-use Rattle.host.specs.declared.answers.SubmitAnswer.TheVariants.{Accepted, Refused as refused_submit}
-use Rattle.host.specs.declared.answers.StartAnswer.TheVariants.{Started, Refused as start_refused}
 use Rattle.host.specs.declared.controller.HostController.{HostController}
 use Rattle.host.specs.Fields.{requested_of, fields_refused}
 use Rattle.host.specs.Controller.{idle, dispatcher_now, fields_at, observed as looked_at, turn_of, with_driver}
@@ -28,14 +25,15 @@ use Rattle.record.specs.Shown.{note}
 use Rattle.term3.specs.Calls.{is_begin, Call, submit, whose_turn, start, driver, Answer, fields_of, call}
 use Rattle.term3.specs.Callers.{is_end}
 use Rattle.term3.proofs.Ends.{ends_busy, idle_after_lem}
+use Rattle.transfers.specs.declared.refusal.Refusal.{Refusal}
 
 -- The event that a call and its answer tell.
 abbrev pub event_of : (c : Call) → Answer c → Event
-event_of (submit c x n f) Accepted = submitted c (requested_of (fields_of x n)) f
-event_of (submit c x n f) (refused_submit why) = nothing
+event_of (submit c x n f) (Ok tt) = submitted c (requested_of (fields_of x n)) f
+event_of (submit c x n f) (Err why) = nothing
 event_of (whose_turn f) a = observed f
-event_of (start k f buf m log) (Started c) = started c f
-event_of (start k f buf m log) (start_refused why) = nothing
+event_of (start k f buf m log) (Ok c) = started c f
+event_of (start k f buf m log) (Err why) = nothing
 event_of (driver c b) a = cond (is_end (note c a)) ended nothing
 
 pub record Fair (d e : HostController) (x : Event) : Type 0 where
@@ -55,13 +53,13 @@ submit_fair : (d : HostController) (c : ℕ) (x : Begin) (n f : ℕ) → Good (i
 unfolding submit_of
 submit_fair d c x n f g = go (leb c 7) refl (pending_at d.dispatcher c) refl (leb (requested_of (fields_of x n)) (quota_at d.dispatcher c)) (fields_refused (fields_of x n))
   where
-    go : (a : Bool) → leb c 7 ≡ a → (w : Bool) → pending_at d.dispatcher c ≡ w → (q : Bool) (r : OptionRefusal)
+    go : (a : Bool) → leb c 7 ≡ a → (w : Bool) → pending_at d.dispatcher c ≡ w → (q : Bool) (r : Result (Unit {0}) Refusal)
         → Fair d (submit_next (submit_answer a w q r) d c (fields_of x n) f) (event_of (submit c x n f) (submit_answer a w q r))
     go false p w e q r = fair_nothing d
     go true p true e q r = fair_nothing d
     go true p false e false r = fair_nothing d
-    go true p false e true (Some why) = fair_nothing d
-    go true p false e true None =
+    go true p false e true (Err why) = fair_nothing d
+    go true p false e true (Ok tt) =
         let u = dispatcher_now d in
         let b = requested_of (fields_of x n) in
         record {

@@ -1,4 +1,5 @@
 -- The charges of every frame. Assumes nothing.
+use Rattle.std.specs.Prelude.{Err, Ok}
 use mathlib.Core.Path.{◌≡◌, refl, sym, ap, ap₂, subst, ◌∙◌}
 use mathlib.Core.Bool.{Bool, true, false, cond}
 use mathlib.Core.List.{List, [], ◌∷◌, ◌++◌}
@@ -8,8 +9,6 @@ use lib.ListN.{get_or}
 use lib.Dec.{eqb}
 use borrow.Author.Tests.{eqb-true, eqb-false, eq-eqb, ne_eqb}
 use Rattle.dispatcher.specs.Dispatcher.{used_at}
-use Rattle.host.specs.declared.answers.SubmitAnswer.TheVariants.{Accepted, Refused as refused_submit}
-use Rattle.host.specs.declared.answers.StartAnswer.TheVariants.{Started, Refused as start_refused}
 use Rattle.host.specs.declared.controller.HostController.{HostController}
 use Rattle.record.specs.Shown.{note}
 use Rattle.term3.specs.Calls.{Call, submit, whose_turn, start, driver, Answer, call}
@@ -63,17 +62,17 @@ same_frame : (s : ℕ) (l : List Charge) (t : Callers) → Sums s l t → Sums s
 same_frame s l t k = record { frame = k.frame; sums = λ c. carry_none (eqb s s) l c ∙ ap (λ (b : Bool). cond b (sum_of c l) 0) (eq-eqb s s refl) ∙ k.sums c }
 
 call_sums : (s : ℕ) (l : List Charge) (t : Callers) (x : Call) (a : Answer x) → Sums s l t → let n = seen s x a in Sums n (carry (eqb n s) l (charges t x a)) (hears t x a)
-call_sums s l t (submit c x n f) Accepted k = record { frame = refl; sums = λ e. frame_sums s l t f e k }
-call_sums s l t (submit c x n f) (refused_submit why) k = same_frame s l t k
+call_sums s l t (submit c x n f) (Ok tt) k = record { frame = refl; sums = λ e. frame_sums s l t f e k }
+call_sums s l t (submit c x n f) (Err why) k = same_frame s l t k
 call_sums s l t (whose_turn f) a k = record { frame = refl; sums = λ e. frame_sums s l t f e k }
-call_sums s l t (start q f buf m log) (Started c) k = record {
+call_sums s l t (start q f buf m log) (Ok c) k = record {
   frame = refl;
   sums = λ e.
       carry_one (eqb f s) l (record { caller = c; bytes = requested (t.came c) }) e
       ∙ ap (λ (n : ℕ). n + cond (eqb c e) (requested (t.came c)) 0) (sym (carry_none (eqb f s) l e) ∙ frame_sums s l t f e k)
       ∙ sum_put (λ (z : ℕ). cond (eqb f t.frame) (t.spent z) 0) c (requested (t.came c)) e;
 }
-call_sums s l t (start q f buf m log) (start_refused why) k = same_frame s l t k
+call_sums s l t (start q f buf m log) (Err why) k = same_frame s l t k
 call_sums s l t (driver c b) a k = go (is_end (note c a))
   where
     go : (v : Bool) → Sums s (carry (eqb s s) l []) (cond v (ends t) t)
@@ -91,11 +90,11 @@ spent_within t d h c k =
     omega (arith, a, b, w)
 
 share_same : (t : Callers) (x : Call) (a : Answer x) (c : ℕ) → (hears t x a).share c ≡ t.share c
-share_same t (submit z x n f) Accepted c = refl
-share_same t (submit z x n f) (refused_submit why) c = refl
+share_same t (submit z x n f) (Ok tt) c = refl
+share_same t (submit z x n f) (Err why) c = refl
 share_same t (whose_turn f) a c = refl
-share_same t (start k f buf m log) (Started z) c = refl
-share_same t (start k f buf m log) (start_refused why) c = refl
+share_same t (start k f buf m log) (Ok z) c = refl
+share_same t (start k f buf m log) (Err why) c = refl
 share_same t (driver z b) a c = go (is_end (note z a))
   where
     go : (v : Bool) → (let u : Callers = cond v (ends t) t in u).share c ≡ t.share c

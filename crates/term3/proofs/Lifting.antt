@@ -1,5 +1,6 @@
 -- A list of the driver's calls none of whose begins and steps is refused is what some list of calls here makes: one caller comes and starts in each begin's place, each time in
 -- a new frame. Assumes nothing.
+use Rattle.std.specs.Prelude.{Err, Ok, Option, Result, Some}
 use mathlib.Core.Path.{◌≡◌, refl, sym, ap, ap₂, subst, ◌∙◌}
 use mathlib.Core.Bool.{Bool, true, false, cond, not, ◌&&◌, ◌||◌, true≢false}
 use mathlib.Core.List.{List, [], ◌∷◌, ◌++◌}
@@ -9,23 +10,13 @@ use lib.ListN.{length}
 use lib.Dec.{eqb, leb}
 use borrow.Author.Tests.{leb-true, le-leb, eqb-true, eqb-false, eq-eqb, ne_eqb}
 use Rattle.transfers.specs.declared.wire.Direction.TheVariants.{In, Out}
-use Rattle.transfers.specs.declared.refusal.OptionRefusal.{OptionRefusal}
-use Rattle.transfers.specs.declared.refusal.OptionRefusal.TheVariants.{Some, None}
-use Rattle.transfers.specs.declared.answers.BeginAnswer.{BeginAnswer}
-use Rattle.transfers.specs.declared.answers.BeginAnswer.TheVariants.{Begun as accepted, Refused as refused_begin}
 use Rattle.transfers.specs.declared.driver.Driver.{Driver}
-use Rattle.transfers.specs.declared.driver.Transfer.{Transfer}
 use Rattle.transfers.specs.Reply.{Reply, result}
 use Rattle.transfers.specs.Rows.{unless}
 use Rattle.transfers.specs.Memory.{lent_fits}
 use Rattle.transfers.specs.State.{address_good, endpoint_good, size_good}
 use Rattle.transfers.specs.Calls.{is_idle, fields_refusal, Beginning, begin_refusal, begin_or, begins_control, bulk_request, begins_bulk_in, begins_bulk_out, begin_control_of, begin_bulk_in_of, begin_bulk_out_of}
 use Rattle.dispatcher.specs.Dispatcher.{pending_at, quota_at}
-use Rattle.host.specs.declared.answers.SubmitAnswer.{SubmitAnswer}
-use Rattle.host.specs.declared.answers.SubmitAnswer.TheVariants.{Accepted}
-use Rattle.host.specs.declared.answers.TurnAnswer.TheVariants.{Turn as turn_of}
-use Rattle.host.specs.declared.answers.StartAnswer.{StartAnswer}
-use Rattle.host.specs.declared.answers.StartAnswer.TheVariants.{Started, Refused as start_refused}
 use Rattle.host.specs.declared.controller.HostController.{HostController}
 use Rattle.host.specs.Fields.{requested_of, fields_refused}
 use Rattle.host.specs.Reply.{start_reply}
@@ -46,6 +37,9 @@ use Rattle.term3.proofs.Agreeing.{Agrees, requested_same, agrees_next}
 use Rattle.term3.proofs.Table.{row_told}
 use Rattle.term3.proofs.Looking.{look_is, somebody, first_look}
 use Rattle.term3.proofs.Shadow.{shadow_of, shadow, start_begins, submit_driver}
+use Rattle.transfers.specs.declared.refusal.Refusal.{Refusal}
+use Rattle.host.specs.declared.answers.SubmitRefusal.{SubmitRefusal}
+use Rattle.transfers.specs.declared.driver.Run.{Run}
 
 -- ---- the calls
 
@@ -83,21 +77,21 @@ lift_typed (detect sie log ∷ ds) u s h = (h.0, lift_typed ds u s h.1)
 
 -- ---- a begin that the driver takes passes every test
 
-is_accepted : (x : Begin) (buf m log : List ℕ) (a : BeginAnswer) → Premises.Unrefused (begin x buf m log) a → a ≡ accepted
-is_accepted x buf m log accepted h = refl
-is_accepted x buf m log (refused_begin why) h = absurd h
+is_accepted : (x : Begin) (buf m log : List ℕ) (a : Result (Unit {0}) Refusal) → Premises.Unrefused (begin x buf m log) a → a ≡ Ok tt
+is_accepted x buf m log (Ok tt) h = refl
+is_accepted x buf m log (Err why) h = absurd h
 
-abbrev is_begun : BeginAnswer → Bool
-is_begun accepted = true
-is_begun (refused_begin why) = false
+abbrev is_begun : Result (Unit {0}) Refusal → Bool
+is_begun (Ok tt) = true
+is_begun (Err why) = false
 
-or_tests : (p i : Bool) (r : OptionRefusal) (t : Transfer) (m : List ℕ) (o : Beginning) → (begin_or (begin_refusal p i r) t m o).answer ≡ accepted → (p ≡ true) × (i ≡ true) × (r ≡ None)
+or_tests : (p i : Bool) (r : Result (Unit {0}) Refusal) (t : Option Run) (m : List ℕ) (o : Beginning) → (begin_or (begin_refusal p i r) t m o).answer ≡ Ok tt → (p ≡ true) × (i ≡ true) × (r ≡ Ok tt)
 or_tests false i r t m o e = absurd (true≢false (sym (ap is_begun e)))
 or_tests true false r t m o e = absurd (true≢false (sym (ap is_begun e)))
-or_tests true true (Some why) t m o e = absurd (true≢false (sym (ap is_begun e)))
-or_tests true true None t m o e = (refl, refl, refl)
+or_tests true true (Err why) t m o e = absurd (true≢false (sym (ap is_begun e)))
+or_tests true true (Ok tt) t m o e = (refl, refl, refl)
 
-begun_tests : (t : Transfer) (x : Begin) (buf m log : List ℕ) → (beginning t x buf m log).answer ≡ accepted → (lent_fits m log ≡ true) × (is_idle t ≡ true) × (fields_refused (fields_of x (length buf)) ≡ None)
+begun_tests : (t : Option Run) (x : Begin) (buf m log : List ℕ) → (beginning t x buf m log).answer ≡ Ok tt → (lent_fits m log ≡ true) × (is_idle t ≡ true) × (fields_refused (fields_of x (length buf)) ≡ Ok tt)
 unfolding begin_control_of begin_bulk_in_of begin_bulk_out_of
 begun_tests t (control_begin a x p s ph) buf m log e =
     or_tests (lent_fits m log) (is_idle t) (fields_refused (fields_of (control_begin a x p s ph) (length buf))) t m (begins_control a x p s ph (length buf) m) e
@@ -106,14 +100,14 @@ begun_tests t (bulk_begin In a e p k b) buf m log q =
 begun_tests t (bulk_begin Out a e p k b) buf m log q =
     or_tests (lent_fits m log) (is_idle t) (fields_refused (fields_of (bulk_begin Out a e p k b) (length buf))) t m (begins_bulk_out (bulk_request Out a e p b (length buf)) e k buf m) q
 
-bulk_small : (a e p : Bool) (n : ℕ) → fields_refusal a e p (leb n 0xFFFF) ≡ None → n ≤ 65535
+bulk_small : (a e p : Bool) (n : ℕ) → fields_refusal a e p (leb n 0xFFFF) ≡ Ok tt → n ≤ 65535
 bulk_small a e p n q = go a e p (leb n 0xFFFF) refl q
   where
-    refused : (o : OptionRefusal) → Bool
-    refused (Some why) = true
-    refused None = false
+    refused : (o : Result (Unit {0}) Refusal) → Bool
+    refused (Err why) = true
+    refused (Ok tt) = false
 
-    go : (a e p b : Bool) → leb n 0xFFFF ≡ b → fields_refusal a e p b ≡ None → n ≤ 65535
+    go : (a e p b : Bool) → leb n 0xFFFF ≡ b → fields_refusal a e p b ≡ Ok tt → n ≤ 65535
     go false e p b k r = absurd (true≢false (ap refused r))
     go true false p b k r = absurd (true≢false (ap refused r))
     go true true false b k r = absurd (true≢false (ap refused r))
@@ -121,7 +115,7 @@ bulk_small a e p n q = go a e p (leb n 0xFFFF) refl q
     go true true true true k r = leb-true n 0xFFFF k
 
 -- It asks for at most 65,535 bytes.
-requested_small : (x : Begin) (n : ℕ) → Asked.TypedBegin x → fields_refused (fields_of x n) ≡ None → requested_by x n ≤ 65535
+requested_small : (x : Begin) (n : ℕ) → Asked.TypedBegin x → fields_refused (fields_of x n) ≡ Ok tt → requested_by x n ≤ 65535
 requested_small (control_begin a x p s ph) n ty e = let w = ty.2.4 in omega (arith, w)
 requested_small (bulk_begin In a e p k b) n ty q = bulk_small (address_good a) (endpoint_good e) (size_good p) n q
 requested_small (bulk_begin Out a e p k b) n ty q = bulk_small (address_good a) (endpoint_good e) (size_good p) n q
@@ -148,8 +142,8 @@ other_not s = go (eqb s 0) refl
     go true e = ne_eqb 1 s (one_not s (eqb-true s 0 e))
     go false e = ne_eqb 0 s (λ q. eqb-false s 0 e (sym q))
 
-submit_taken : (t : Callers) (d : HostController) (u : ℕ) (x : Begin) (n f : ℕ) → Agrees t d → NoneWaits t → u < 8 → requested_by x n ≤ t.share u → fields_refused (fields_of x n) ≡ None
-    → (call d (submit u x n f)).answer ≡ Accepted
+submit_taken : (t : Callers) (d : HostController) (u : ℕ) (x : Begin) (n f : ℕ) → Agrees t d → NoneWaits t → u < 8 → requested_by x n ≤ t.share u → fields_refused (fields_of x n) ≡ Ok tt
+    → (call d (submit u x n f)).answer ≡ Ok tt
 unfolding call submit_of
 submit_taken t d u x n f h w k q e =
     let within : leb (requested_of (fields_of x n)) (quota_at d.dispatcher u) ≡ true = ap₂ leb (requested_same x n) (sym (h.same.share u k)) ∙ le-leb (requested_by x n) (t.share u) q in
@@ -161,14 +155,14 @@ submit_taken t d u x n f h w k q e =
 rows_end : (a b c : Bool) (r : Reply (Unit {0})) → a ≡ true → b ≡ true → c ≡ true → unless a 32 (unless b 33 (unless c 34 r)) ≡ r
 rows_end a b c r p q v = ap (λ (z : Bool). unless z 32 (unless b 33 (unless c 34 r))) p ∙ ap (λ (z : Bool). unless z 33 (unless c 34 r)) q ∙ ap (λ (z : Bool). unless z 34 r) v
 
-fields_taken : (t : Callers) (d : HostController) (u : ℕ) (x : Begin) (n f : ℕ) → Agrees t d → NoneWaits t → u < 8 → requested_by x n ≤ t.share u → (call d (submit u x n f)).answer ≡ Accepted → fields_row x n ≡ result tt
+fields_taken : (t : Callers) (d : HostController) (u : ℕ) (x : Begin) (n f : ℕ) → Agrees t d → NoneWaits t → u < 8 → requested_by x n ≤ t.share u → (call d (submit u x n f)).answer ≡ Ok tt → fields_row x n ≡ result tt
 fields_taken t d u x n f h w k q e =
     sym (rows_end (leb u 7) (not (t.waits u)) (leb (requested_by x n) (t.share u)) (fields_row x n) (le-leb u 7 (omega (arith, k))) (ap not (w u k)) (le-leb (requested_by x n) (t.share u) q))
-    ∙ sym (subst (λ (a : SubmitAnswer). Row t (submit u x n f) a) e (row_told t d (submit u x n f) h))
+    ∙ sym (subst (λ (a : Result (Unit {0}) SubmitRefusal). Row t (submit u x n f) a) e (row_told t d (submit u x n f) h))
 
-started_by : (u : ℕ) (a : StartAnswer) → start_reply a ≡ result u → a ≡ Started u
-started_by u (Started c) e = ap Started (let z : c ≡ u = cc in z)
-started_by u (start_refused why) e = absurd (let z : ◌≡◌ {A = ℕ} 0 1 = cc in omega arith)
+started_by : (u : ℕ) (a : Result ℕ Refusal) → start_reply a ≡ result u → a ≡ Ok u
+started_by u (Ok c) e = ap Ok (let z : c ≡ u = cc in z)
+started_by u (Err why) e = absurd (let z : ◌≡◌ {A = ℕ} 0 1 = cc in omega arith)
 
 none_any : (n : ℕ) (w : ℕ → Bool) → ((e : ℕ) → e < n → w e ≡ false) → any_waits w n ≡ false
 none_any zero w h = refl
@@ -176,19 +170,19 @@ none_any (suc n) w h = ap (λ (b : Bool). b || any_waits w n) (h n (omega arith)
 
 -- Then it is its turn, by a look in that frame,
 turn_taken : (t : Callers) (d : HostController) (u : ℕ) (x : Begin) (n : ℕ) → Agrees t d → NoneWaits t → u < 8 → t.under_way ≡ false → requested_by x n ≤ t.share u → let f = other t.frame in
-    (call d (submit u x n f)).answer ≡ Accepted → looked (call d (submit u x n f)).next f ≡ turn_of u
+    (call d (submit u x n f)).answer ≡ Ok tt → looked (call d (submit u x n f)).next f ≡ Some u
 turn_taken t d u x n h w k i q e =
     let f = other t.frame in
     let y : Coming = record { fields = x; length = n } in
     first_look t d u x n f h i (none_any 8 t.waits w) e
     (ap (λ (b : Bool). leb (cond b (t.spent u) 0 + requested y) (t.share u)) (other_not t.frame) ∙ le-leb (0 + requested y) (t.share u) (let z : 0 + requested_by x n ≤ t.share u = omega (arith, q) in z))
 
-turn_number : (n u : ℕ) → answer_for n ≡ turn_of u → n ≡ u
+turn_number : (n u : ℕ) → answer_for n ≡ Some u → n ≡ u
 turn_number n u e = (somebody n u e).1
 
 -- and a start takes it.
 start_taken : (t : Callers) (d : HostController) (u : ℕ) (x : Begin) (f : ℕ) (buf m log : List ℕ) → let v = comes t u (record { fields = x; length = length buf }) f in
-    Agrees v d → looked d f ≡ turn_of u → u < 8 → lent_fits m log ≡ true → fields_row x (length buf) ≡ result tt → (call d (start (kind_of x) f buf m log)).answer ≡ Started u
+    Agrees v d → looked d f ≡ Some u → u < 8 → lent_fits m log ≡ true → fields_row x (length buf) ≡ result tt → (call d (start (kind_of x) f buf m log)).answer ≡ Ok u
 start_taken t d u x f buf m log h e k l r =
     let v = comes t u (record { fields = x; length = length buf }) f in
     started_by u (call d (start (kind_of x) f buf m log)).answer (row_told v d (start (kind_of x) f buf m log) h ∙ ap row_at (turn_number (whose (looks v f)) u (sym (look_is v d f h) ∙ e)) ∙ its_row)
@@ -255,7 +249,7 @@ driver_lifts u t d c b ds a rest =
 
 begin_lifts : (t : Callers) (d : HostController) (u : ℕ) (x : Begin) (n f : ℕ) (k : StartKind) (buf m log : List ℕ) (cs : List Call) (ds : List D.Call) → let d₁ = (call d (submit u x n f)).next in let d₂ = (call d₁ (start k f buf m log)).next in
     let t₁ = comes t u (record { fields = x; length = n }) f in
-    (call d (submit u x n f)).answer ≡ Accepted → (call d₁ (start k f buf m log)).answer ≡ Started u → (t₁.came u).fields ≡ x → Lifts (starts t₁ u f) d₂ cs ds
+    (call d (submit u x n f)).answer ≡ Ok tt → (call d₁ (start k f buf m log)).answer ≡ Ok u → (t₁.came u).fields ≡ x → Lifts (starts t₁ u f) d₂ cs ds
     → Lifts t d (submit u x n f ∷ start k f buf m log ∷ cs) (begin x buf m log ∷ ds)
 unfolding shadow UnrefusedFrom
 begin_lifts t d u x n f k buf m log cs ds e₀ e₁ q r =
@@ -263,9 +257,9 @@ begin_lifts t d u x n f k buf m log cs ds e₀ e₁ q r =
     let d₂ = (call d₁ (start k f buf m log)).next in
     let t₁ = comes t u (record { fields = x; length = n }) f in
     record {
-      shadows = subst (λ (a : SubmitAnswer). let v = hears t (submit u x n f) a in let b = (call d₁ (start k f buf m log)).answer in
+      shadows = subst (λ (a : Result (Unit {0}) SubmitRefusal). let v = hears t (submit u x n f) a in let b = (call d₁ (start k f buf m log)).answer in
           shadow_of v (start k f buf m log) b ++ shadow (hears v (start k f buf m log) b) d₂ cs ≡ begin x buf m log ∷ ds) (sym e₀)
-          (subst (λ (b : StartAnswer). shadow_of t₁ (start k f buf m log) b ++ shadow (hears t₁ (start k f buf m log) b) d₂ cs ≡ begin x buf m log ∷ ds) (sym e₁)
+          (subst (λ (b : Result ℕ Refusal). shadow_of t₁ (start k f buf m log) b ++ shadow (hears t₁ (start k f buf m log) b) d₂ cs ≡ begin x buf m log ∷ ds) (sym e₁)
           (ap₂ (λ (y : Begin) (l : List D.Call). begin y buf m log ∷ l) q r.shadows));
       unrefused = (subst (Unrefused (submit u x n f)) (sym e₀) tt, (subst (Unrefused (start k f buf m log)) (sym e₁) tt, r.unrefused));
     }
@@ -291,10 +285,10 @@ lifts_from (begin x buf m log ∷ ds) u z t d a =
     let e₀ = submit_taken t d u x n f h w z within q.2 in
     let d₁ = (call d (submit u x n f)).next in
     let t₁ = comes t u (record { fields = x; length = n }) f in
-    let h₁ : Agrees t₁ d₁ = subst (λ (b : SubmitAnswer). Agrees (hears t (submit u x n f) b) d₁) e₀ (agrees_next t d (submit u x n f) h) in
+    let h₁ : Agrees t₁ d₁ = subst (λ (b : Result (Unit {0}) SubmitRefusal). Agrees (hears t (submit u x n f) b) d₁) e₀ (agrees_next t d (submit u x n f) h) in
     let e₁ = start_taken t d₁ u x f buf m log h₁ (turn_taken t d u x n h w z i within e₀) z q.0 (fields_taken t d u x n f h w z within e₀) in
     let d₂ = (call d₁ (start k f buf m log)).next in
-    let h₂ : Agrees (starts t₁ u f) d₂ = subst (λ (b : StartAnswer). Agrees (hears t₁ (start k f buf m log) b) d₂) e₁ (agrees_next t₁ d₁ (start k f buf m log) h₁) in
+    let h₂ : Agrees (starts t₁ u f) d₂ = subst (λ (b : Result ℕ Refusal). Agrees (hears t₁ (start k f buf m log) b) d₂) e₁ (agrees_next t₁ d₁ (start k f buf m log) h₁) in
     let its = came_last t.came u (record { fields = x; length = n }) in
     let next = (start_begins t₁ d₁ h₁ k f buf m log u e₁).1 ∙ ap (λ (y : Begin). (D.call d₁.driver (begin y buf m log)).next) its
     ∙ ap (λ (e : Driver). (D.call e (begin x buf m log)).next) (submit_driver d u (fields_of x n) f) in

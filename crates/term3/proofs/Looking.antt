@@ -1,4 +1,5 @@
 -- What looks answer, at a moment and after one call. Assumes nothing.
+use Rattle.std.specs.Prelude.{Err, None, Ok, Option, Result, Some}
 use mathlib.Core.Path.{◌≡◌, refl, sym, ap, ap₂, subst, ◌∙◌}
 use mathlib.Core.Bool.{Bool, true, false, cond, not, ◌&&◌, ◌||◌, true≢false}
 use mathlib.Core.List.{List}
@@ -12,14 +13,9 @@ use Rattle.dispatcher.specs.declared.Dispatcher.{Dispatcher}
 use Rattle.dispatcher.specs.Dispatcher.{pending_at}
 use Rattle.dispatcher.specs.Dispatcher as T
 use Rattle.dispatcher.proofs.Rounds.{below}
+use Rattle.dispatcher.proofs.Rooms.{length_frame}
 use Rattle.dispatcher.proofs.Turning.{Good, look_good}
 use Rattle.dispatcher.proofs.Passing.{current_same, first_submit}
-use Rattle.host.specs.declared.answers.SubmitAnswer.{SubmitAnswer}
-use Rattle.host.specs.declared.answers.SubmitAnswer.TheVariants.{Accepted, Refused as refused_submit}
-use Rattle.host.specs.declared.answers.TurnAnswer.{TurnAnswer}
-use Rattle.host.specs.declared.answers.TurnAnswer.TheVariants.{Turn as turn_of, Nobody}
-use Rattle.host.specs.declared.answers.StartAnswer.{StartAnswer}
-use Rattle.host.specs.declared.answers.StartAnswer.TheVariants.{Started, Refused as start_refused}
 use Rattle.host.specs.declared.controller.HostController.{HostController}
 use Rattle.host.specs.Controller.{idle, dispatcher_now, observed}
 use Rattle.host.specs.Controller as H
@@ -38,6 +34,8 @@ use Rattle.term3.proofs.Ends.{ends_busy}
 use Rattle.term3.proofs.Same.{same_fits, same_finds, same_frame, same_joins}
 use Rattle.term3.proofs.Agreeing.{Agrees, agrees_next}
 use Rattle.term3.proofs.Table.{whose_is, row_told}
+use Rattle.transfers.specs.declared.refusal.Refusal.{Refusal}
+use Rattle.host.specs.declared.answers.SubmitRefusal.{SubmitRefusal}
 
 -- ---- looks
 
@@ -49,7 +47,7 @@ look_is t d f h = ap answer_for (sym (whose_is t d f h))
 pub look_next : (t : Callers) (d : HostController) (x : Call) (f : ℕ) → Agrees t d → let o = call d x in looked o.next f ≡ answer_for (whose (looks (hears t x o.answer) f))
 look_next t d x f h = let o = call d x in look_is (hears t x o.answer) o.next f (agrees_next t d x h)
 
-pub busy_look : (t : Callers) (f : ℕ) → t.under_way ≡ true → answer_for (whose (looks t f)) ≡ Nobody
+pub busy_look : (t : Callers) (f : ℕ) → t.under_way ≡ true → answer_for (whose (looks t f)) ≡ None
 busy_look t f b = ap (λ (v : Bool). answer_for (cond v 8 (looks t f).turn)) b
 
 -- A look in the frame last seen brings no new frame,
@@ -97,22 +95,22 @@ look_now t d h =
 
 -- ---- answers and numbers
 
-abbrev is_nobody : TurnAnswer → Bool
-is_nobody (turn_of c) = false
-is_nobody Nobody = true
+abbrev is_nobody : Option ℕ → Bool
+is_nobody (Some c) = false
+is_nobody None = true
 
 -- Somebody's turn is a number up to 7.
-pub somebody : (n c : ℕ) → answer_for n ≡ turn_of c → (leb n 7 ≡ true) × (n ≡ c)
+pub somebody : (n c : ℕ) → answer_for n ≡ Some c → (leb n 7 ≡ true) × (n ≡ c)
 somebody n c e = go (leb n 7) e
   where
-    go : (b : Bool) → cond b (turn_of n) Nobody ≡ turn_of c → (b ≡ true) × (n ≡ c)
+    go : (b : Bool) → cond b (Some n) None ≡ Some c → (b ≡ true) × (n ≡ c)
     go true q = (refl, (let z : n ≡ c = cc in z))
     go false q = absurd (true≢false (ap is_nobody q))
 
-nobodys : (n : ℕ) → answer_for n ≡ Nobody → leb n 7 ≡ false
+nobodys : (n : ℕ) → answer_for n ≡ None → leb n 7 ≡ false
 nobodys n e = go (leb n 7) e
   where
-    go : (b : Bool) → cond b (turn_of n) Nobody ≡ Nobody → b ≡ false
+    go : (b : Bool) → cond b (Some n) None ≡ None → b ≡ false
     go true q = absurd (true≢false (sym (ap is_nobody q)))
     go false q = refl
 
@@ -140,7 +138,7 @@ idle_turn : (i : Bool) (n c : ℕ) → leb (cond i n 8) 7 ≡ true → cond i n 
 idle_turn true n c e q = (refl, q)
 idle_turn false n c e q = absurd (true≢false (sym e))
 
-pub passed_over : (t : Callers) (d : HostController) (c f : ℕ) → Agrees t d → looked d f ≡ turn_of c → fits (in_frame t f) c ≡ true
+pub passed_over : (t : Callers) (d : HostController) (c f : ℕ) → Agrees t d → looked d f ≡ Some c → fits (in_frame t f) c ≡ true
 passed_over t d c f h e =
     let v = (observed d f).dispatcher in
     let k = somebody (H.turn_of (observed d f)) c (sym (ap answer_for (whose_is t d f h)) ∙ sym (look_is t d f h) ∙ e) in
@@ -148,15 +146,15 @@ passed_over t d c f h e =
     let small : c < 8 = below c (ap (λ (n : ℕ). leb n 7) (sym k.1) ∙ k.0) in
     frame_fits t d f c h small ∙ subst (λ (n : ℕ). T.fits v n ≡ true) i.1 ((frame_good t d f h).pre.held i.0 (subst (λ (n : ℕ). n < 8) (sym i.1) small))
 
-pub too_small : (t : Callers) (d : HostController) (f : ℕ) → Agrees t d → ((c : ℕ) → c < 8 → fits (in_frame t f) c ≡ false) → looked d f ≡ Nobody
+pub too_small : (t : Callers) (d : HostController) (f : ℕ) → Agrees t d → ((c : ℕ) → c < 8 → fits (in_frame t f) c ≡ false) → looked d f ≡ None
 too_small t d f h none = look_is t d f h ∙ go (leb (whose (looks t f)) 7) refl
   where
     n : ℕ
     n = whose (looks t f)
 
-    go : (b : Bool) → leb n 7 ≡ b → cond b (turn_of n) Nobody ≡ Nobody
+    go : (b : Bool) → leb n 7 ≡ b → cond b (Some n) None ≡ None
     go false e = refl
-    go true e = absurd (true≢false (sym (passed_over t d n f h (look_is t d f h ∙ ap (λ (b : Bool). cond b (turn_of n) Nobody) e)) ∙ none n (below n e)))
+    go true e = absurd (true≢false (sym (passed_over t d n f h (look_is t d f h ∙ ap (λ (b : Bool). cond b (Some n) None) e)) ∙ none n (below n e)))
 
 is_idle : (t : Callers) (d : HostController) → Agrees t d → t.under_way ≡ false → idle d ≡ true
 is_idle t d h b = go (idle d) (sym b ∙ h.same.busy)
@@ -165,7 +163,7 @@ is_idle t d h b = go (idle d) (sym b ∙ h.same.busy)
     go true e = refl
     go false e = absurd (true≢false (sym e))
 
-pub nobody_fits : (t : Callers) (d : HostController) (f : ℕ) → Agrees t d → t.under_way ≡ false → looked d f ≡ Nobody → (c : ℕ) → c < 8 → fits (in_frame t f) c ≡ false
+pub nobody_fits : (t : Callers) (d : HostController) (f : ℕ) → Agrees t d → t.under_way ≡ false → looked d f ≡ None → (c : ℕ) → c < 8 → fits (in_frame t f) c ≡ false
 nobody_fits t d f h b e c k =
     let v = (observed d f).dispatcher in
     let i = is_idle t d h b in
@@ -177,39 +175,39 @@ nobody_fits t d f h b e c k =
 -- ---- nobody's turn, and where it goes
 
 -- With none under way and nobody's turn, the turn told is nobody's.
-free : (t : Callers) (d : HostController) → Agrees t d → t.under_way ≡ false → looked d t.frame ≡ Nobody → leb 8 t.turn ≡ true
+free : (t : Callers) (d : HostController) → Agrees t d → t.under_way ≡ false → looked d t.frame ≡ None → leb 8 t.turn ≡ true
 free t d h b e = beyond t.turn (nobodys t.turn (sym (ap (λ (a : Bool). answer_for (cond a 8 t.turn)) b) ∙ sym (look_now t d h) ∙ e))
 
 -- Then a call that finds one finds the next.
 found : (t : Callers) → t.under_way ≡ false → leb 8 t.turn ≡ true → whose (finds t) ≡ next_turn t
 found t b e = ap₂ (λ (u v : Bool). cond u 8 (cond (not u && v) (next_turn t) t.turn)) b e
 
-pub goes : (t : Callers) (d : HostController) (f : ℕ) → Agrees t d → t.under_way ≡ false → looked d t.frame ≡ Nobody → looked d f ≡ answer_for (next_turn (in_frame t f))
+pub goes : (t : Callers) (d : HostController) (f : ℕ) → Agrees t d → t.under_way ≡ false → looked d t.frame ≡ None → looked d f ≡ answer_for (next_turn (in_frame t f))
 goes t d f h b e = look_is t d f h ∙ ap answer_for (found (in_frame t f) b (free t d h b e))
 
-pub coming_told : (t : Callers) (c : ℕ) (x : Begin) (n f : ℕ) (a : SubmitAnswer) → a ≡ Accepted → hears t (submit c x n f) a ≡ finds (joins (in_frame t f) c (record { fields = x; length = n }))
+pub coming_told : (t : Callers) (c : ℕ) (x : Begin) (n f : ℕ) (a : Result (Unit {0}) SubmitRefusal) → a ≡ Ok tt → hears t (submit c x n f) a ≡ finds (joins (in_frame t f) c (record { fields = x; length = n }))
 coming_told t c x n f a e = ap (hears t (submit c x n f)) e
 
 -- A look after a coming, in its frame.
-coming_look : (t : Callers) (d : HostController) (c : ℕ) (x : Begin) (n f : ℕ) → Agrees t d → let o = call d (submit c x n f) in o.answer ≡ Accepted
+coming_look : (t : Callers) (d : HostController) (c : ℕ) (x : Begin) (n f : ℕ) → Agrees t d → let o = call d (submit c x n f) in o.answer ≡ Ok tt
     → looked o.next f ≡ answer_for (whose (finds (joins (in_frame t f) c (record { fields = x; length = n }))))
 coming_look t d c x n f h e =
     let o = call d (submit c x n f) in
     look_next t d (submit c x n f) f h ∙ ap (λ (u : Callers). answer_for (whose (looks u f))) (coming_told t c x n f o.answer e)
     ∙ ap answer_for (again (joins (in_frame t f) c (record { fields = x; length = n })))
 
-pub goes_coming : (t : Callers) (d : HostController) (c : ℕ) (x : Begin) (n f : ℕ) → Agrees t d → let o = call d (submit c x n f) in t.under_way ≡ false → looked d t.frame ≡ Nobody → o.answer ≡ Accepted
+pub goes_coming : (t : Callers) (d : HostController) (c : ℕ) (x : Begin) (n f : ℕ) → Agrees t d → let o = call d (submit c x n f) in t.under_way ≡ false → looked d t.frame ≡ None → o.answer ≡ Ok tt
     → looked o.next f ≡ answer_for (next_turn (joins (in_frame t f) c (record { fields = x; length = n })))
 goes_coming t d c x n f h b e a = coming_look t d c x n f h a ∙ ap answer_for (found (joins (in_frame t f) c (record { fields = x; length = n })) b (free t d h b e))
 
 -- A start is of the caller whose turn a look would have found.
-pub started_is : (t : Callers) (d : HostController) (k : StartKind) (f : ℕ) (buf m log : List ℕ) (c : ℕ) → Agrees t d → (call d (start k f buf m log)).answer ≡ Started c
+pub started_is : (t : Callers) (d : HostController) (k : StartKind) (f : ℕ) (buf m log : List ℕ) (c : ℕ) → Agrees t d → (call d (start k f buf m log)).answer ≡ Ok c
     → (idle d ≡ true) × (whose (looks t f) ≡ c)
 unfolding call
 started_is t d k f buf m log c h q = go (start_is d k f buf m log) q
   where
     Goes : Starting → Type 0
-    Goes o = o.answer ≡ Started c → (idle d ≡ true) × (whose (looks t f) ≡ c)
+    Goes o = o.answer ≡ Ok c → (idle d ≡ true) × (whose (looks t f) ≡ c)
 
     go : Start d k f buf m log → Goes (start_of d k f buf m log)
     go (refused_start why e) = subst Goes (sym e) (λ q. absurd (let z : ◌≡◌ {A = ℕ} 0 1 = cc in omega arith))
@@ -217,7 +215,7 @@ started_is t d k f buf m log c h q = go (start_is d k f buf m log) q
         let same : (next_in d f).caller ≡ c = cc in
         (b.idles, whose_is t d f h ∙ same))
 
-pub goes_start : (t : Callers) (d : HostController) (k : StartKind) (f : ℕ) (buf m log : List ℕ) (c : ℕ) → Agrees t d → looked d t.frame ≡ Nobody → (call d (start k f buf m log)).answer ≡ Started c
+pub goes_start : (t : Callers) (d : HostController) (k : StartKind) (f : ℕ) (buf m log : List ℕ) (c : ℕ) → Agrees t d → looked d t.frame ≡ None → (call d (start k f buf m log)).answer ≡ Ok c
     → next_turn (in_frame t f) ≡ c
 goes_start t d k f buf m log c h e q =
     let s = started_is t d k f buf m log c h q in
@@ -231,10 +229,10 @@ unless_true true n r e = refl
 unless_true false n r e = absurd (let z : ◌≡◌ {A = ℕ} 0 1 = cc in omega arith)
 
 -- An accepted coming is of one of the eight.
-pub caller_small : (t : Callers) (d : HostController) (c : ℕ) (x : Begin) (n f : ℕ) → Agrees t d → (call d (submit c x n f)).answer ≡ Accepted → leb c 7 ≡ true
+pub caller_small : (t : Callers) (d : HostController) (c : ℕ) (x : Begin) (n f : ℕ) → Agrees t d → (call d (submit c x n f)).answer ≡ Ok tt → leb c 7 ≡ true
 caller_small t d c x n f h e =
     unless_true (leb c 7) 32 (unless (not (t.waits c)) 33 (unless (leb (requested_by x n) (t.share c)) 34 (fields_row x n)))
-    (subst (λ (a : SubmitAnswer). Row t (submit c x n f) a) e (row_told t d (submit c x n f) h))
+    (subst (λ (a : Result (Unit {0}) SubmitRefusal). Row t (submit c x n f) a) e (row_told t d (submit c x n f) h))
 
 or_false : (a b : Bool) → (a || b) ≡ false → (a ≡ false) × (b ≡ false)
 or_false false b e = (refl, e)
@@ -248,8 +246,8 @@ none_waits (suc n) w h e k = go (eqb e n) refl (λ q. none_waits n w (or_false (
     go true p ih = ap w (eqb-true e n p) ∙ (or_false (w n) (any_waits w n) h).0
     go false p ih = ih (omega (arith, eqb-false e n p, k))
 
-pub first_look : (t : Callers) (d : HostController) (c : ℕ) (x : Begin) (n f : ℕ) → Agrees t d → let o = call d (submit c x n f) in t.under_way ≡ false → any_waits t.waits 8 ≡ false → o.answer ≡ Accepted
-    → enough (in_frame t f) c (record { fields = x; length = n }) ≡ true → looked o.next f ≡ turn_of c
+pub first_look : (t : Callers) (d : HostController) (c : ℕ) (x : Begin) (n f : ℕ) → Agrees t d → let o = call d (submit c x n f) in t.under_way ≡ false → any_waits t.waits 8 ≡ false → o.answer ≡ Ok tt
+    → enough (in_frame t f) c (record { fields = x; length = n }) ≡ true → looked o.next f ≡ Some c
 first_look t d c x n f h b w a r =
     let y : Coming = record { fields = x; length = n } in
     let s₁ = joins (in_frame t f) c y in
@@ -258,7 +256,7 @@ first_look t d c x n f h b w a r =
     let seven = caller_small t d c x n f h a in
     let small = below c seven in
     let p = h.good.pre in
-    let same = same_joins (in_frame t f) (idle d) (T.in_frame u f) c y (same_frame t (idle d) u f h.same) small p.pending8 p.requested8 in
+    let same = same_joins (in_frame t f) (idle d) (T.in_frame u f) c y (same_frame t (idle d) u f h.same) small (length_frame (eqb f u.frame) u.callers ∙ p.callers8) in
     let here : fits s₁ c ≡ true = ap (λ (v : Bool). cond v true (t.waits c) && leb ((in_frame t f).spent c + requested (put t.came c y c)) (t.share c)) (eq-eqb c c refl)
     ∙ ap (λ (v : Bool). let z : Coming = cond v y (t.came c) in leb ((in_frame t f).spent c + requested z) (t.share c)) (eq-eqb c c refl) ∙ r in
     let fit = sym (same_fits s₁ (idle d) (T.with_pending (T.in_frame u f) c (requested y)) same c small) ∙ here in
@@ -266,7 +264,7 @@ first_look t d c x n f h b w a r =
     let turn : (finds s₁).turn ≡ c = (same_finds s₁ (idle d) (T.with_pending (T.in_frame u f) c (requested y)) same p.last8).turn
     ∙ ap (λ (v : Bool). (T.submits v u c (requested y) f).turn) i
     ∙ first_submit u c (requested y) f (subst (λ (v : Bool). Good v u) i h.good) none small fit in
-    coming_look t d c x n f h a ∙ ap₂ (λ (v : Bool) (z : ℕ). answer_for (cond v 8 z)) b turn ∙ ap (λ (v : Bool). cond v (turn_of c) Nobody) seven
+    coming_look t d c x n f h a ∙ ap₂ (λ (v : Bool) (z : ℕ). answer_for (cond v 8 z)) b turn ∙ ap (λ (v : Bool). cond v (Some c) None) seven
 
 -- ---- the end of a transfer
 
@@ -293,7 +291,7 @@ record Held (t : Callers) (c : ℕ) : Type 0 where
   turn : t.turn ≡ c
   small : leb c 7 ≡ true
 
-held : (t : Callers) (d : HostController) (c : ℕ) → Agrees t d → looked d t.frame ≡ turn_of c → Held t c
+held : (t : Callers) (d : HostController) (c : ℕ) → Agrees t d → looked d t.frame ≡ Some c → Held t c
 held t d c h e =
     let k = somebody (whose t) c (sym (look_now t d h) ∙ e) in
     go t.under_way refl k.0 k.1
@@ -313,29 +311,29 @@ held_frame t c f k = record {
 }
 
 -- and whoever comes.
-held_coming : (t : Callers) (c z : ℕ) (y : Begin) (n f : ℕ) (a : SubmitAnswer) → Held t c → Held (hears t (submit z y n f) a) c
-held_coming t c z y n f Accepted k = record {
+held_coming : (t : Callers) (c z : ℕ) (y : Begin) (n f : ℕ) (a : Result (Unit {0}) SubmitRefusal) → Held t c → Held (hears t (submit z y n f) a) c
+held_coming t c z y n f (Ok tt) k = record {
   free = k.free;
   turn = ap₂ (λ (a b : Bool). cond (not a && b) (next_turn (joins (in_frame t f) z (record { fields = y; length = n }))) t.turn) k.free (ap (leb 8) k.turn ∙ within c k.small) ∙ k.turn;
   small = k.small;
 }
-held_coming t c z y n f (refused_submit why) k = k
+held_coming t c z y n f (Err why) k = k
 
-held_look : (t : Callers) (c f : ℕ) → Held t c → answer_for (whose (looks t f)) ≡ turn_of c
+held_look : (t : Callers) (c f : ℕ) → Held t c → answer_for (whose (looks t f)) ≡ Some c
 held_look t c f k =
     let v = held_frame t c f k in
-    ap₂ (λ (a : Bool) (n : ℕ). answer_for (cond a 8 n)) v.free v.turn ∙ ap (λ (b : Bool). cond b (turn_of c) Nobody) k.small
+    ap₂ (λ (a : Bool) (n : ℕ). answer_for (cond a 8 n)) v.free v.turn ∙ ap (λ (b : Bool). cond b (Some c) None) k.small
 
-pub stays_look : (t : Callers) (d : HostController) (c : ℕ) (x : Call) (f : ℕ) → Agrees t d → let o = call d x in looked d t.frame ≡ turn_of c → is_started x o.answer ≡ false → looked o.next f ≡ turn_of c
+pub stays_look : (t : Callers) (d : HostController) (c : ℕ) (x : Call) (f : ℕ) → Agrees t d → let o = call d x in looked d t.frame ≡ Some c → is_started x o.answer ≡ false → looked o.next f ≡ Some c
 unfolding call
 stays_look t d c x f h e s = look_next t d x f h ∙ held_look (hears t x (call d x).answer) c f (by x s)
   where
     k : Held t c
     k = held t d c h e
 
-    unstarted : (q : StartKind) (g : ℕ) (buf m log : List ℕ) (a : StartAnswer) → is_started (start q g buf m log) a ≡ false → Held (hears t (start q g buf m log) a) c
-    unstarted q g buf m log (Started z) v = absurd (true≢false v)
-    unstarted q g buf m log (start_refused why) v = k
+    unstarted : (q : StartKind) (g : ℕ) (buf m log : List ℕ) (a : Result ℕ Refusal) → is_started (start q g buf m log) a ≡ false → Held (hears t (start q g buf m log) a) c
+    unstarted q g buf m log (Ok z) v = absurd (true≢false v)
+    unstarted q g buf m log (Err why) v = k
 
     by : (x : Call) → let o = call d x in is_started x o.answer ≡ false → Held (hears t x o.answer) c
     by (submit z y n g) v = held_coming t c z y n g (call d (submit z y n g)).answer k

@@ -1,18 +1,18 @@
 -- What the calls tell of the callers and what the dispatcher holds move alike. Assumes nothing.
 use mathlib.Core.Path.{◌≡◌, refl, sym, ap, ap₂, ◌∙◌}
 use mathlib.Core.Bool.{Bool, true, false, cond, not, ◌&&◌, true≢false}
-use mathlib.Core.List.{List}
+use mathlib.Core.List.{map}
 use Prim.Native.Nat.{ℕ, zero, suc, ◌+◌, ◌%◌, ◌<◌}
 use native.Mathlib.Omega.{arith}
-use lib.ListN.{length, get_or, set, replicate}
-use lib.Seq.{get_or-set_same, get_or-set_other}
+use lib.ListN.{length, get_or}
 use lib.Dec.{eqb, leb}
 use borrow.Author.Tests.{eqb-true, eqb-false}
+use Rattle.dispatcher.specs.declared.Caller.{Caller}
 use Rattle.dispatcher.specs.declared.Dispatcher.{Dispatcher}
-use Rattle.dispatcher.specs.Dispatcher.{pending_at, requested_at, quota_at, used_at, after, first_from, charged}
+use Rattle.dispatcher.specs.Dispatcher.{no_caller, caller_at, with_caller, pending_at, requested_at, quota_at, used_at, after, first_from, unspent, charged}
 use Rattle.dispatcher.specs.Dispatcher as T
 use Rattle.dispatcher.proofs.Rounds.{after_mod, after_lt}
-use Rattle.dispatcher.proofs.Rooms.{zeros, fits_told, charged_all}
+use Rattle.dispatcher.proofs.Rooms.{fits_told, unspent_at, kept_frame, other_kept, same_kept, charged_all}
 use Rattle.term3.specs.Callers.{Coming, requested, Callers, put, fits, first_that, next_turn, finds, in_frame, joins, looks, runs, ends}
 
 -- Told (t) and held (u) alike; i says that no transfer is under way.
@@ -77,45 +77,59 @@ same_finds t i u s h = record {
 pub same_frame : (t : Callers) (i : Bool) (u : Dispatcher) (f : ℕ) → Same t i u → Same (in_frame t f) i (T.in_frame u f)
 same_frame t i u f s = record {
   busy = s.busy;
-  waits = s.waits;
-  asks = s.asks;
+  waits = λ c h. s.waits c h ∙ sym (kept_frame u f c).0;
+  asks = λ c h w. s.asks c h w ∙ sym (kept_frame u f c).1;
   last = s.last;
   turn = s.turn;
-  share = s.share;
+  share = λ c h. s.share c h ∙ sym (kept_frame u f c).2;
   spent = λ c h. ap₂ (λ (b : Bool) (n : ℕ). cond b n 0) (ap (eqb f) s.frame) (s.spent c h) ∙ go c (eqb f u.frame);
   frame = refl;
 }
   where
-    go : (c : ℕ) (b : Bool) → cond b (used_at u c) 0 ≡ get_or (cond b u.used (replicate 8 0)) c 0
+    go : (c : ℕ) (b : Bool) → cond b (used_at u c) 0 ≡ (let x = get_or (cond b u.callers (map unspent u.callers)) c no_caller in x.used)
     go c true = refl
-    go c false = sym (zeros 8 c)
+    go c false = sym (ap (λ (x : Caller). x.used) (unspent_at u.callers c))
 
 -- Told at c and stored there.
-pub put_same : {A : Type 0} (w : ℕ → A) (l : List A) (c : ℕ) (v z : A) (e : ℕ) → c < length l → w e ≡ get_or l e z → put w c v e ≡ get_or (set l c v) e z
-put_same w l c v z e h q = go (eqb e c) refl
+put_kept : {A : Type 0} (w : ℕ → A) (g : Caller → A) (u : Dispatcher) (c : ℕ) (x : Caller) (v : A) (e : ℕ) → length u.callers ≡ 8 → c < 8 → v ≡ g x → w e ≡ g (caller_at u e)
+    → put w c v e ≡ g (caller_at (with_caller u c x) e)
+put_kept w g u c x v e l h p q = go (eqb e c) refl
   where
-    go : (b : Bool) → eqb e c ≡ b → cond b v (w e) ≡ get_or (set l c v) e z
-    go true p = sym (ap (λ (x : ℕ). get_or (set l c v) x z) (eqb-true e c p) ∙ get_or-set_same l c v z h)
-    go false p = q ∙ sym (get_or-set_other l c e v z (eqb-false e c p))
+    go : (b : Bool) → eqb e c ≡ b → cond b v (w e) ≡ g (caller_at (with_caller u c x) e)
+    go true r = p ∙ ap g (sym (same_kept u c x l h)) ∙ sym (ap (λ (n : ℕ). g (caller_at (with_caller u c x) n)) (eqb-true e c r))
+    go false r = q ∙ ap g (sym (other_kept u c x e (eqb-false e c r)))
 
-pub same_joins : (t : Callers) (i : Bool) (u : Dispatcher) (c : ℕ) (x : Coming) → Same t i u → c < 8 → length u.pending ≡ 8 → length u.requested ≡ 8 → Same (joins t c x) i (T.with_pending u c (requested x))
-same_joins t i u c x s h p q = record {
+-- What isn't changed at c stays everywhere.
+all_kept : {A : Type 0} (g : Caller → A) (u : Dispatcher) (c : ℕ) (x : Caller) (e : ℕ) → length u.callers ≡ 8 → c < 8 → g x ≡ g (caller_at u c) → g (caller_at u e) ≡ g (caller_at (with_caller u c x) e)
+all_kept g u c x e l h p = go (eqb e c) refl
+  where
+    go : (b : Bool) → eqb e c ≡ b → g (caller_at u e) ≡ g (caller_at (with_caller u c x) e)
+    go true r =
+        ap (λ (n : ℕ). g (caller_at u n)) (eqb-true e c r) ∙ sym p ∙ ap g (sym (same_kept u c x l h))
+        ∙ sym (ap (λ (n : ℕ). g (caller_at (with_caller u c x) n)) (eqb-true e c r))
+    go false r = ap g (sym (other_kept u c x e (eqb-false e c r)))
+
+pub same_joins : (t : Callers) (i : Bool) (u : Dispatcher) (c : ℕ) (x : Coming) → Same t i u → c < 8 → length u.callers ≡ 8 → Same (joins t c x) i (T.with_pending u c (requested x))
+same_joins t i u c x s h p = record {
   busy = s.busy;
-  waits = λ e k. put_same t.waits u.pending c true false e (omega (arith, p, h)) (s.waits e k);
+  waits = λ e k. put_kept t.waits (λ (z : Caller). z.pending) u c y true e p h refl (s.waits e k);
   asks = asks;
   last = s.last;
   turn = s.turn;
-  share = s.share;
-  spent = s.spent;
+  share = λ e k. s.share e k ∙ all_kept (λ (z : Caller). z.quota) u c y e p h refl;
+  spent = λ e k. s.spent e k ∙ all_kept (λ (z : Caller). z.used) u c y e p h refl;
   frame = s.frame;
 }
   where
-    asks : (e : ℕ) → e < 8 → put t.waits c true e ≡ true → requested (put t.came c x e) ≡ get_or (set u.requested c (requested x)) e 0
+    y : Caller
+    y = record { pending = true; requested = requested x; quota = quota_at u c; used = used_at u c }
+
+    asks : (e : ℕ) → e < 8 → put t.waits c true e ≡ true → requested (put t.came c x e) ≡ requested_at (with_caller u c y) e
     asks e k w = go (eqb e c) refl w
       where
-        go : (b : Bool) → eqb e c ≡ b → cond b true (t.waits e) ≡ true → requested (cond b x (t.came e)) ≡ get_or (set u.requested c (requested x)) e 0
-        go true y v = sym (ap (λ (z : ℕ). get_or (set u.requested c (requested x)) z 0) (eqb-true e c y) ∙ get_or-set_same u.requested c (requested x) 0 (omega (arith, q, h)))
-        go false y v = s.asks e k v ∙ sym (get_or-set_other u.requested c e (requested x) 0 (eqb-false e c y))
+        go : (b : Bool) → eqb e c ≡ b → cond b true (t.waits e) ≡ true → requested (cond b x (t.came e)) ≡ requested_at (with_caller u c y) e
+        go true r v = sym (ap (λ (n : ℕ). requested_at (with_caller u c y) n) (eqb-true e c r) ∙ ap (λ (z : Caller). z.requested) (same_kept u c y p h))
+        go false r v = s.asks e k v ∙ ap (λ (z : Caller). z.requested) (sym (other_kept u c y e (eqb-false e c r)))
 
 pub same_looks : (t : Callers) (i : Bool) (u : Dispatcher) (f : ℕ) → Same t i u → u.last < 8 → Same (looks t f) i (T.observes i u f)
 same_looks t i u f s h = same_finds (in_frame t f) i (T.in_frame u f) (same_frame t i u f s) h
@@ -128,19 +142,20 @@ put_false w c e q = go (eqb e c) q
     go true p = absurd (true≢false (sym p))
     go false p = p
 
-pub same_runs : (t : Callers) (i : Bool) (u : Dispatcher) (c : ℕ) → Same t i u → c < 8 → length u.pending ≡ 8 → length u.used ≡ 8 → T.fits u c ≡ true → Same (runs t c) false (T.starts u c (requested_at u c))
-same_runs t i u c s h p q f =
+pub same_runs : (t : Callers) (i : Bool) (u : Dispatcher) (c : ℕ) → Same t i u → c < 8 → length u.callers ≡ 8 → T.fits u c ≡ true → Same (runs t c) false (T.starts u c (requested_at u c))
+same_runs t i u c s h p f =
     let k = fits_told u c f in
     let all : charged u c (requested_at u c) ≡ used_at u c + requested_at u c = charged_all u c (requested_at u c) k.1 in
     let bytes : t.spent c + requested (t.came c) ≡ charged u c (requested_at u c) = ap₂ (λ (a b : ℕ). a + b) (s.spent c h) (s.asks c h (s.waits c h ∙ k.0)) ∙ sym all in
+    let x = T.runs u c (requested_at u c) in
     record {
       busy = refl;
-      waits = λ e z. put_same t.waits u.pending c false false e (omega (arith, p, h)) (s.waits e z);
-      asks = λ e z w. s.asks e z (put_false t.waits c e w);
+      waits = λ e z. put_kept t.waits (λ (y : Caller). y.pending) u c x false e p h refl (s.waits e z);
+      asks = λ e z w. s.asks e z (put_false t.waits c e w) ∙ all_kept (λ (y : Caller). y.requested) u c x e p h refl;
       last = refl;
       turn = refl;
-      share = s.share;
-      spent = λ e z. ap (λ (n : ℕ). put t.spent c n e) bytes ∙ put_same t.spent u.used c (charged u c (requested_at u c)) 0 e (omega (arith, q, h)) (s.spent e z);
+      share = λ e z. s.share e z ∙ all_kept (λ (y : Caller). y.quota) u c x e p h refl;
+      spent = λ e z. put_kept t.spent (λ (y : Caller). y.used) u c x (t.spent c + requested (t.came c)) e p h bytes (s.spent e z);
       frame = s.frame;
     }
 

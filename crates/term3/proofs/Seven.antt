@@ -1,4 +1,5 @@
 -- "at most seven transfers of others end between a caller's coming and its turn", counted from when its remainder suffices. Assumes nothing.
+use Rattle.std.specs.Prelude.{Err, None, Ok, Option, Some}
 use mathlib.Core.Path.{◌≡◌, refl, sym, ap, ap₂, subst, ◌∙◌}
 use mathlib.Core.Bool.{Bool, true, false, cond, not, ◌&&◌}
 use mathlib.Core.List.{List, [], ◌∷◌}
@@ -11,10 +12,6 @@ use Rattle.dispatcher.specs.Dispatcher as T
 use Rattle.dispatcher.specs.Events.{Event, ended, nothing, moved, idle_after, AllAllowed, runner, ends_other}
 use Rattle.dispatcher.specs.Events as E
 use Rattle.dispatcher.proofs.Bound.{left, left_seven, bound}
-use Rattle.host.specs.declared.answers.SubmitAnswer.TheVariants.{Accepted, Refused as refused_submit}
-use Rattle.host.specs.declared.answers.StartAnswer.TheVariants.{Started, Refused as start_refused}
-use Rattle.host.specs.declared.answers.TurnAnswer.{TurnAnswer}
-use Rattle.host.specs.declared.answers.TurnAnswer.TheVariants.{Turn as turn_of, Nobody}
 use Rattle.host.specs.declared.controller.HostController.{HostController}
 use Rattle.host.specs.Controller.{idle, dispatcher_now}
 use Rattle.record.specs.Shown.{note}
@@ -46,7 +43,7 @@ all_allowed (c ∷ cs) t d h =
 turn_is : (n c : ℕ) → c < 8 → is_turn (answer_for n) c ≡ eqb n c
 turn_is n c h = go (leb n 7) refl
   where
-    go : (b : Bool) → leb n 7 ≡ b → is_turn (cond b (turn_of n) Nobody) c ≡ eqb n c
+    go : (b : Bool) → leb n 7 ≡ b → is_turn (cond b (Some n) None) c ≡ eqb n c
     go true e = refl
     go false e = let k = leb-false n 7 e in sym (ne_eqb n c (λ q. apart n c q k h))
       where
@@ -55,11 +52,11 @@ turn_is n c h = go (leb n 7) refl
 
 -- A transfer of another's ends.
 end_is : (c r : ℕ) (x : Call) (a : Answer x) → cond (ends_by x a && not (eqb r c)) 1 0 ≡ ends_other c r (event_of x a)
-end_is c r (submit z y n f) Accepted = refl
-end_is c r (submit z y n f) (refused_submit why) = refl
+end_is c r (submit z y n f) (Ok tt) = refl
+end_is c r (submit z y n f) (Err why) = refl
 end_is c r (whose_turn f) a = refl
-end_is c r (start k f buf m log) (Started z) = refl
-end_is c r (start k f buf m log) (start_refused why) = refl
+end_is c r (start k f buf m log) (Ok z) = refl
+end_is c r (start k f buf m log) (Err why) = refl
 end_is c r (driver z b) a = go (is_end (note z a)) (eqb r c) refl
   where
     go : (v w : Bool) → eqb r c ≡ w → cond (v && not (eqb r c)) 1 0 ≡ ends_other c r (cond v ended nothing)
@@ -68,11 +65,11 @@ end_is c r (driver z b) a = go (is_end (note z a)) (eqb r c) refl
     go false w e = refl
 
 last_is : (t : Callers) (x : Call) (a : Answer x) → runner t.last (event_of x a) ≡ (hears t x a).last
-last_is t (submit z y n f) Accepted = refl
-last_is t (submit z y n f) (refused_submit why) = refl
+last_is t (submit z y n f) (Ok tt) = refl
+last_is t (submit z y n f) (Err why) = refl
 last_is t (whose_turn f) a = refl
-last_is t (start k f buf m log) (Started z) = refl
-last_is t (start k f buf m log) (start_refused why) = refl
+last_is t (start k f buf m log) (Ok z) = refl
+last_is t (start k f buf m log) (Err why) = refl
 last_is t (driver z b) a = go (is_end (note z a))
   where
     go : (v : Bool) → runner t.last (cond v ended nothing) ≡ (let u : Callers = cond v (ends t) t in u).last
@@ -97,7 +94,7 @@ others_is (x ∷ xs) t d c k h =
     let f = agrees_fair t d x h in
     let rest = others_is xs (hears t x o.answer) e c k (agrees_next t d x h) in
     ap (λ (b : Bool). cond b 0 (cond (ends_by x o.answer && not (eqb t.last c)) 1 0 + others_end c (hears t x o.answer) e xs))
-    (ap (λ (a : TurnAnswer). is_turn a c) (look_now t d h ∙ ap answer_for (now_is t d h)) ∙ turn_is (T.whose (idle d) (dispatcher_now d)) c k)
+    (ap (λ (a : Option ℕ). is_turn a c) (look_now t d h ∙ ap answer_for (now_is t d h)) ∙ turn_is (T.whose (idle d) (dispatcher_now d)) c k)
     ∙ ap₂ (λ (n m : ℕ). cond (eqb (T.whose (idle d) (dispatcher_now d)) c) 0 (n + m)) (end_is c t.last x o.answer)
     (rest
     ∙ ap (λ (r : ℕ). E.others_end c r (idle e) (dispatcher_now e) (events_from e xs)) (sym (last_is t x o.answer))

@@ -1,4 +1,5 @@
 -- Every list of calls shows what some list of the driver's calls shows: a start's begin, and the driver's own. Assumes nothing.
+use Rattle.std.specs.Prelude.{Err, None, Ok, Option, Result}
 use mathlib.Core.Path.{◌≡◌, refl, sym, ap, subst, ◌∙◌}
 use mathlib.Core.Bool.{Bool, true, false, cond}
 use mathlib.Core.List.{List, [], ◌∷◌, ◌++◌}
@@ -11,18 +12,10 @@ use Rattle.transfers.specs.declared.host_controller.TransferExtras.TheVariants.{
 use Rattle.transfers.specs.declared.wire.Direction.TheVariants.{In, Out}
 use Rattle.transfers.specs.declared.refusal.Refusal.{Refusal}
 use Rattle.transfers.specs.declared.refusal.Refusal.TheVariants.{Address}
-use Rattle.transfers.specs.declared.refusal.OptionRefusal.TheVariants.{Some}
-use Rattle.transfers.specs.declared.answers.BeginAnswer.{BeginAnswer}
-use Rattle.transfers.specs.declared.answers.BeginAnswer.TheVariants.{Begun as accepted}
-use Rattle.transfers.specs.declared.answers.OptionEntries.TheVariants.{None as no_count}
 use Rattle.transfers.specs.declared.driver.Driver.{Driver}
-use Rattle.transfers.specs.declared.driver.Transfer.{Transfer}
 use Rattle.transfers.specs.Memory.{lent_fits}
 use Rattle.transfers.specs.Calls.{is_idle, Beginning, refuses_begin, begin_refusal, begin_or, begins_control, begin_control_of}
 use Rattle.transfers.specs.Driver.{begun}
-use Rattle.host.specs.declared.answers.SubmitAnswer.{SubmitAnswer}
-use Rattle.host.specs.declared.answers.SubmitAnswer.TheVariants.{Accepted, Refused as refused_submit}
-use Rattle.host.specs.declared.answers.StartAnswer.TheVariants.{Started, Refused as start_refused}
 use Rattle.host.specs.declared.fields.Fields.{Fields}
 use Rattle.host.specs.declared.controller.HostController.{HostController}
 use Rattle.host.specs.Controller.{observed}
@@ -43,6 +36,8 @@ use Rattle.term3.specs.HostCalls.{Typed, AllTyped, Lent, AllLent}
 use Rattle.term3.specs.Shown.{start_note, shown, shown_from}
 use Rattle.term3.specs.Driven as Driven
 use Rattle.term3.proofs.Agreeing.{Agrees, agrees_next}
+use Rattle.transfers.specs.declared.driver.Run.{Run}
+use Rattle.host.specs.declared.answers.SubmitRefusal.{SubmitRefusal}
 
 -- A begin that the driver always refuses, by its address.
 abbrev never : Begin
@@ -52,8 +47,8 @@ never = control_begin 255 Normal 0 (record { bmRequestType = 0; bRequest = 0; wV
 abbrev pub shadow_of : Callers → (c : Call) → Answer c → List D.Call
 shadow_of t (submit c x n f) a = []
 shadow_of t (whose_turn f) a = []
-shadow_of t (start k f buf m log) (Started c) = begin (t.came c).fields buf m log ∷ []
-shadow_of t (start k f buf m log) (start_refused why) = begin never buf m log ∷ []
+shadow_of t (start k f buf m log) (Ok c) = begin (t.came c).fields buf m log ∷ []
+shadow_of t (start k f buf m log) (Err why) = begin never buf m log ∷ []
 shadow_of t (driver c b) a = c ∷ []
 
 unfoldable pub shadow : Callers → HostController → List Call → List D.Call
@@ -62,7 +57,7 @@ shadow t d (c ∷ cs) = let o = call d c in shadow_of t c o.answer ++ shadow (he
 
 -- ---- a begin as a start makes it
 
-begin_same : (t : Transfer) (x : Begin) (n : ℕ) (buf m log : List ℕ) → beginning_of t (fields_of x n) buf m log ≡ beginning t x buf m log
+begin_same : (t : Option Run) (x : Begin) (n : ℕ) (buf m log : List ℕ) → beginning_of t (fields_of x n) buf m log ≡ beginning t x buf m log
 begin_same t (control_begin a x p s ph) n buf m log = refl
 begin_same t (bulk_begin In a e p k b) n buf m log = refl
 begin_same t (bulk_begin Out a e p k b) n buf m log = refl
@@ -76,20 +71,20 @@ now_same t d f buf m log e =
 
 -- What a begin shows, by what it hands back and tells.
 abbrev begin_shown : Note → Beginning → Shown
-begin_shown k o = record { note = k; writes = o.writes; memory = o.memory; armed = o.armed; failed = no_count; writer = its_memory }
+begin_shown k o = record { note = k; writes = o.writes; memory = o.memory; armed = o.armed; failed = None; writer = its_memory }
 
-begun_shown : (d : Driver) (x : Begin) (buf m log : List ℕ) (later : List D.Call) (o : Beginning) → o ≡ beginning d.transfer x buf m log → o.answer ≡ accepted
+begun_shown : (d : Driver) (x : Begin) (buf m log : List ℕ) (later : List D.Call) (o : Beginning) → o ≡ beginning d.transfer x buf m log → o.answer ≡ Ok tt
     → begin_shown (began x buf) o ∷ S.shown_from (begun d o).next later ≡ S.shown_from d (begin x buf m log ∷ later)
 unfolding S.shown_from D.call
 begun_shown d x buf m log later o e q =
-    ap (λ (a : BeginAnswer). begin_shown (S.note (begin x buf m log) a) o ∷ S.shown_from (begun d o).next later) (sym q)
+    ap (λ (a : Result (Unit {0}) Refusal). begin_shown (S.note (begin x buf m log) a) o ∷ S.shown_from (begun d o).next later) (sym q)
     ∙ ap (λ (b : Beginning). begin_shown (S.note (begin x buf m log) b.answer) b ∷ S.shown_from (begun d b).next later) e
 
 never_shown : (d : Driver) (buf m log : List ℕ) (later : List D.Call) (why : Refusal) → begin_shown nothing (refuses_begin d.transfer why m) ∷ S.shown_from d later ≡ S.shown_from d (begin never buf m log ∷ later)
 unfolding S.shown_from D.call begin_control_of
 never_shown d buf m log later why = go (lent_fits m log) (is_idle d.transfer)
   where
-    go : (p i : Bool) → let o = begin_or (begin_refusal p i (Some Address)) d.transfer m (begins_control 255 Normal 0 (record { bmRequestType = 0; bRequest = 0; wValue = 0; wIndex = 0; wLength = 0 }) phase_none (length buf) m) in
+    go : (p i : Bool) → let o = begin_or (begin_refusal p i (Err Address)) d.transfer m (begins_control 255 Normal 0 (record { bmRequestType = 0; bRequest = 0; wValue = 0; wIndex = 0; wLength = 0 }) phase_none (length buf) m) in
         begin_shown nothing (refuses_begin d.transfer why m) ∷ S.shown_from d later ≡ begin_shown (S.note (begin never buf m log) o.answer) o ∷ S.shown_from (begun d o).next later
     go false i = refl
     go true false = refl
@@ -104,13 +99,13 @@ came_told t d k f buf m log h b = let c = (next_in d f).caller in h.came c b.sma
 
 start_shown : (t : Callers) (d : HostController) (k : StartKind) (f : ℕ) (buf m log : List ℕ) (later : List D.Call) → Agrees t d
     → let o = start_of d k f buf m log in
-    record { note = start_note t o.answer buf; writes = o.writes; memory = o.memory; armed = o.armed; failed = no_count; writer = its_memory } ∷ S.shown_from o.next.driver later
+    record { note = start_note t o.answer buf; writes = o.writes; memory = o.memory; armed = o.armed; failed = None; writer = its_memory } ∷ S.shown_from o.next.driver later
     ≡ S.shown_from d.driver (shadow_of t (start k f buf m log) o.answer ++ later)
 start_shown t d k f buf m log later h = go (start_is d k f buf m log)
   where
     Shows : Starting → Type 0
     Shows o =
-        record { note = start_note t o.answer buf; writes = o.writes; memory = o.memory; armed = o.armed; failed = no_count; writer = its_memory } ∷ S.shown_from o.next.driver later
+        record { note = start_note t o.answer buf; writes = o.writes; memory = o.memory; armed = o.armed; failed = None; writer = its_memory } ∷ S.shown_from o.next.driver later
         ≡ S.shown_from d.driver (shadow_of t (start k f buf m log) o.answer ++ later)
 
     go : Start d k f buf m log → Shows (start_of d k f buf m log)
@@ -121,14 +116,14 @@ start_shown t d k f buf m log later h = go (start_is d k f buf m log)
 
 -- What it does is what this begin does.
 abbrev Does : HostController → Starting → Beginning → Type 0
-Does d o b = (b.answer ≡ accepted) × (o.next.driver ≡ (begun d.driver b).next) × (o.writes ≡ b.writes) × (o.memory ≡ b.memory) × (o.armed ≡ b.armed)
+Does d o b = (b.answer ≡ Ok tt) × (o.next.driver ≡ (begun d.driver b).next) × (o.writes ≡ b.writes) × (o.memory ≡ b.memory) × (o.armed ≡ b.armed)
 
 pub start_begins : (t : Callers) (d : HostController) → Agrees t d → Driven.Begins d t
 unfolding call D.call
 start_begins t d h k f buf m log c q = go (start_is d k f buf m log) q
   where
     Goes : Starting → Type 0
-    Goes o = o.answer ≡ Started c → Does d o (beginning d.driver.transfer (t.came c).fields buf m log)
+    Goes o = o.answer ≡ Ok c → Does d o (beginning d.driver.transfer (t.came c).fields buf m log)
 
     go : Start d k f buf m log → Goes (start_of d k f buf m log)
     go (refused_start why e) = subst Goes (sym e) (λ q. absurd (let z : ◌≡◌ {A = ℕ} 0 1 = cc in omega arith))
@@ -144,9 +139,9 @@ pub submit_driver : (d : HostController) (c : ℕ) (x : Fields) (f : ℕ) → (s
 unfolding submit_of
 submit_driver d c x f = go (submit_checks d c x)
   where
-    go : (a : SubmitAnswer) → (submit_next a d c x f).driver ≡ d.driver
-    go Accepted = refl
-    go (refused_submit why) = refl
+    go : (a : Result (Unit {0}) SubmitRefusal) → (submit_next a d c x f).driver ≡ d.driver
+    go (Ok tt) = refl
+    go (Err why) = refl
 
 call_shown : (t : Callers) (d : HostController) (c : Call) (later : List D.Call) → Agrees t d
     → let o = call d c in shown t c o ++ S.shown_from o.next.driver later ≡ S.shown_from d.driver (shadow_of t c o.answer ++ later)
@@ -177,11 +172,11 @@ put_typed f c x h k e = go (eqb e c)
     go false = h e
 
 came_next : (t : Callers) (c : Call) (a : Answer c) → Typed c → AllCame t → AllCame (hears t c a)
-came_next t (submit c x n f) Accepted ty h = put_typed t.came c (record { fields = x; length = n }) h ty
-came_next t (submit c x n f) (refused_submit why) ty h = h
+came_next t (submit c x n f) (Ok tt) ty h = put_typed t.came c (record { fields = x; length = n }) h ty
+came_next t (submit c x n f) (Err why) ty h = h
 came_next t (whose_turn f) a ty h = h
-came_next t (start k f buf m log) (Started c) ty h = h
-came_next t (start k f buf m log) (start_refused why) ty h = h
+came_next t (start k f buf m log) (Ok c) ty h = h
+came_next t (start k f buf m log) (Err why) ty h = h
 came_next t (driver c b) a ty h = go (is_end (S.note c a))
   where
     go : (v : Bool) → AllCame (cond v (ends t) t)
@@ -194,8 +189,8 @@ never_typed = (omega arith, omega arith, (omega arith, omega arith, omega arith,
 typed_call : (t : Callers) (c : Call) (a : Answer c) (later : List D.Call) → Typed c → AllCame t → Asked.AllTyped later → Asked.AllTyped (shadow_of t c a ++ later)
 typed_call t (submit c x n f) a later ty h k = k
 typed_call t (whose_turn f) a later ty h k = k
-typed_call t (start s f buf m log) (Started c) later ty h k = ((h c, ty.0, ty.1, ty.2), k)
-typed_call t (start s f buf m log) (start_refused why) later ty h k = ((never_typed, ty.0, ty.1, ty.2), k)
+typed_call t (start s f buf m log) (Ok c) later ty h k = ((h c, ty.0, ty.1, ty.2), k)
+typed_call t (start s f buf m log) (Err why) later ty h k = ((never_typed, ty.0, ty.1, ty.2), k)
 typed_call t (driver c b) a later ty h k = (ty, k)
 
 pub typed_shadow : (cs : List Call) (t : Callers) (d : HostController) → AllTyped cs → AllCame t → Asked.AllTyped (shadow t d cs)
@@ -208,8 +203,8 @@ typed_shadow (c ∷ cs) t d ty h =
 lent_call : (t : Callers) (c : Call) (a : Answer c) (later : List D.Call) → Lent c → Kept.AllLent later → Kept.AllLent (shadow_of t c a ++ later)
 lent_call t (submit c x n f) a later h k = k
 lent_call t (whose_turn f) a later h k = k
-lent_call t (start s f buf m log) (Started c) later h k = (h, k)
-lent_call t (start s f buf m log) (start_refused why) later h k = (h, k)
+lent_call t (start s f buf m log) (Ok c) later h k = (h, k)
+lent_call t (start s f buf m log) (Err why) later h k = (h, k)
 lent_call t (driver c b) a later h k = (h, k)
 
 pub lent_shadow : (cs : List Call) (t : Callers) (d : HostController) → AllLent cs → Kept.AllLent (shadow t d cs)

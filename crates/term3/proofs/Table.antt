@@ -11,7 +11,7 @@ use Rattle.transfers.specs.Rows.{unless}
 use Rattle.dispatcher.specs.declared.Dispatcher.{Dispatcher}
 use Rattle.dispatcher.specs.Dispatcher.{pending_at, quota_at, has_room, fits}
 use Rattle.dispatcher.proofs.Rounds.{below}
-use Rattle.dispatcher.proofs.Rooms.{fits_told}
+use Rattle.dispatcher.proofs.Rooms.{fits_told, kept_frame}
 use Rattle.dispatcher.proofs.Turning.{look_good}
 use Rattle.host.specs.declared.fields.Fields.{Fields}
 use Rattle.host.specs.declared.controller.HostController.{HostController}
@@ -23,7 +23,7 @@ use Rattle.host.specs.Start.{StartKind, control, bulk_in, bulk_out, start_of}
 use Rattle.host.specs.Start as S
 use Rattle.host.specs.Rows as H
 use Rattle.host.proofs.Replies.{submit_row_lem, turn_row_lem, start_row_lem}
-use Rattle.host.proofs.Begins.{and_left}
+use Rattle.std.proofs.lemmas.Bool.{and_parts}
 use Rattle.record.specs.Calls.{Begin, control_begin, bulk_begin}
 use Rattle.record.specs.Table.{fields_row}
 use Rattle.term3.specs.Calls.{Call, submit, whose_turn, start, driver, fields_of, call}
@@ -136,7 +136,8 @@ start_told t d k f buf m log h =
     fit c e i l =
         let g = look_good (idle d) (dispatcher_now d) f h.good in
         let asked = subst (λ (n : ℕ). fits u n ≡ true) (sym e) (g.pre.held i (subst (λ (n : ℕ). n < 8) e l)) in
-        ap (λ (n : ℕ). pending_at u c && has_room u c n) (agrees_asks t d h c l (fits_told u c asked).0) ∙ asked
+        let k = kept_frame (dispatcher_now d) f c in
+        ap (λ (n : ℕ). pending_at u c && has_room u c n) (agrees_asks t d h c l (sym k.0 ∙ (fits_told u c asked).0) ∙ sym k.1) ∙ asked
 
     go : (i b : Bool) → idle d ≡ i → leb u.turn 7 ≡ b → let c = u.turn in unless i 16 (here c (may c)) ≡ told (cond i c 8)
     go false b p q = refl
@@ -149,7 +150,7 @@ start_told t d k f buf m log h =
         let l = below c q in
         let m = fit c refl p l in
         ap₂ (λ (v w : Bool). unless (v && w) 16 (rest c (fields_at d c))) q m
-        ∙ alike c (t.came c) (fields_at d c) (h.came c l (h.same.waits c l ∙ and_left (pending_at u c) (has_room u c (requested_of (fields_at d c))) m))
+        ∙ alike c (t.came c) (fields_at d c) (h.came c l (h.same.waits c l ∙ sym (kept_frame (dispatcher_now d) f c).0 ∙ (and_parts (pending_at u c) (has_room u c (requested_of (fields_at d c))) m).0))
         ∙ ap (λ (v : Bool). unless (v && (of_kind k (t.came c).fields && is_result (fields_row (t.came c).fields (t.came c).length))) 16 (unless (eqb (length buf) (t.came c).length) 15 (result c))) (sym q)
 
 -- ---- every call and every list

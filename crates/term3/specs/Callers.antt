@@ -1,9 +1,7 @@
 -- What the calls and their answers tell of the callers: one record, and one function that steps it. Nothing here looks at the program's state.
-use Rattle.std.specs.Prelude.{Bool, true, false, cond, not, ◌&&◌, ◌||◌, List, ℕ, zero, suc, ◌+◌, ◌%◌, get_or, eqb, leb}
+use Rattle.std.specs.Prelude.{Bool, true, false, cond, not, ◌&&◌, ◌||◌, List, ℕ, zero, suc, ◌+◌, ◌%◌, get_or, eqb, leb, Err, Ok}
 use Rattle.transfers.specs.declared.host_controller.DataPhase.TheVariants.{None as phase_none}
 use Rattle.transfers.specs.declared.host_controller.TransferExtras.TheVariants.{Normal}
-use Rattle.host.specs.declared.answers.SubmitAnswer.TheVariants.{Accepted, Refused as refused_submit}
-use Rattle.host.specs.declared.answers.StartAnswer.TheVariants.{Started, Refused as refused_start}
 use Rattle.record.specs.Calls.{Begin, control_begin, bulk_begin}
 use Rattle.record.specs.Told.{Note, began, stepped, finished, broke, nothing}
 use Rattle.record.specs.Shown as D
@@ -177,9 +175,9 @@ ends_by (driver c e) a = is_end (D.note c a)
 
 -- After a call and its answer: a refused one changes nothing, not the frame either.
 abbrev pub hears : Callers → (c : Call) → Answer c → Callers
-hears t (submit c x n f) Accepted = comes t c (record { fields = x; length = n }) f
-hears t (submit c x n f) (refused_submit why) = t
+hears t (submit c x n f) (Ok tt) = comes t c (record { fields = x; length = n }) f
+hears t (submit c x n f) (Err why) = t
 hears t (whose_turn f) a = looks t f
-hears t (start k f buf m log) (Started c) = starts t c f
-hears t (start k f buf m log) (refused_start why) = t
+hears t (start k f buf m log) (Ok c) = starts t c f
+hears t (start k f buf m log) (Err why) = t
 hears t (driver c e) a = cond (ends_by (driver c e) a) (ends t) t

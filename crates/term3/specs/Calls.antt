@@ -1,17 +1,12 @@
 -- The calls of term 3 with request R-9: "A start .. does what begin did and takes its place in term 3, whose calls comings and looks join." With R-10 "every coming, look
 -- and start brings the frame number".
-use Rattle.std.specs.Prelude.{◌≡◌, Bool, true, false, List, [], ℕ}
+use Rattle.std.specs.Prelude.{◌≡◌, Bool, true, false, List, [], ℕ, None, Option, Result}
 use Rattle.transfers.specs.declared.wire.Direction.TheVariants.{In, Out}
 use Rattle.transfers.specs.declared.answers.Armed.{Armed}
-use Rattle.transfers.specs.declared.answers.OptionEntries.{OptionEntries}
-use Rattle.transfers.specs.declared.answers.OptionEntries.TheVariants.{None as no_count}
 use Rattle.transfers.specs.Log.{Write}
 use Rattle.transfers.specs.Answers.{nothing_armed}
 use Rattle.host.specs.declared.fields.Fields.{Fields}
 use Rattle.host.specs.declared.controller.HostController.{HostController}
-use Rattle.host.specs.declared.answers.SubmitAnswer.{SubmitAnswer}
-use Rattle.host.specs.declared.answers.TurnAnswer.{TurnAnswer}
-use Rattle.host.specs.declared.answers.StartAnswer.{StartAnswer}
 use Rattle.host.specs.Fields.{control_fields, bulk_in_fields, bulk_out_fields}
 use Rattle.host.specs.Controller.{with_driver}
 use Rattle.host.specs.Submit.{submit_of}
@@ -19,6 +14,8 @@ use Rattle.host.specs.Turn.{whose_turn_of}
 use Rattle.host.specs.Start.{StartKind, start_of}
 use Rattle.record.specs.Calls.{Begin, control_begin, bulk_begin, begin, step, cancel, open_pipe, close_pipe, poll_pipe, interrupt, detect}
 use Rattle.record.specs.Calls as D
+use Rattle.transfers.specs.declared.refusal.Refusal.{Refusal}
+use Rattle.host.specs.declared.answers.SubmitRefusal.{SubmitRefusal}
 
 -- A begin of the driver, whose place a start takes.
 abbrev pub is_begin : D.Call → Bool
@@ -41,9 +38,9 @@ pub data Call : Type 0 where
 
 -- The answers of a call: results and refusals.
 abbrev pub Answer : Call → Type 0
-Answer (submit c x n f) = SubmitAnswer
-Answer (whose_turn f) = TurnAnswer
-Answer (start k f buf m log) = StartAnswer
+Answer (submit c x n f) = Result (Unit {0}) SubmitRefusal
+Answer (whose_turn f) = Option ℕ
+Answer (start k f buf m log) = Result ℕ Refusal
 Answer (driver c e) = D.Answer c
 
 -- What a call does: the next state and the answer, and as of the driver's calls the writes, packet memory, what was armed, and the count of a transfer that failed.
@@ -53,7 +50,7 @@ pub record Effect (c : Call) : Type 0 where
   pub writes : List Write
   pub memory : List ℕ
   pub armed : Armed
-  pub failed : OptionEntries
+  pub failed : Option ℕ
 
 -- What the functions take for begin's fields: `submit_control`, `submit_bulk_in`, `submit_bulk_out`.
 abbrev pub fields_of : Begin → ℕ → Fields
@@ -63,7 +60,7 @@ fields_of (bulk_begin Out a e p k b) n = bulk_out_fields a e p k b n
 
 -- A call, by the definitions that the functions are proved equal to. A coming and a look are lent nothing. A call of the driver changes nothing else.
 unfoldable pub call : HostController → (c : Call) → Effect c
-call d (submit c x n f) = let o = submit_of d c (fields_of x n) f in record { next = o.next; answer = o.answer; writes = []; memory = []; armed = nothing_armed; failed = no_count }
-call d (whose_turn f) = let o = whose_turn_of d f in record { next = o.next; answer = o.answer; writes = []; memory = []; armed = nothing_armed; failed = no_count }
-call d (start k f buf m log) = let o = start_of d k f buf m log in record { next = o.next; answer = o.answer; writes = o.writes; memory = o.memory; armed = o.armed; failed = no_count }
+call d (submit c x n f) = let o = submit_of d c (fields_of x n) f in record { next = o.next; answer = o.answer; writes = []; memory = []; armed = nothing_armed; failed = None }
+call d (whose_turn f) = let o = whose_turn_of d f in record { next = o.next; answer = o.answer; writes = []; memory = []; armed = nothing_armed; failed = None }
+call d (start k f buf m log) = let o = start_of d k f buf m log in record { next = o.next; answer = o.answer; writes = o.writes; memory = o.memory; armed = o.armed; failed = None }
 call d (driver c e) = let o = D.call d.driver c in record { next = with_driver d o.next; answer = o.answer; writes = o.writes; memory = o.memory; armed = o.armed; failed = o.failed }

@@ -1,8 +1,7 @@
 -- Request R-10's sentence on frames, over every list of calls from a fresh host controller: "in one frame no caller's charges pass its share, and the charges summed from
 -- the frame's own starts equal the spent counts".
-use Rattle.std.specs.Prelude.{◌≡◌, cond, List, [], ◌∷◌, ◌++◌, ℕ, ◌+◌, ◌≤◌, ◌<◌, get_or, eqb}
-use Rattle.host.specs.declared.answers.SubmitAnswer.TheVariants.{Accepted, Refused as refused_submit}
-use Rattle.host.specs.declared.answers.StartAnswer.TheVariants.{Started, Refused as refused_start}
+use Rattle.std.specs.Prelude.{◌≡◌, cond, List, [], ◌∷◌, ◌++◌, ℕ, ◌+◌, ◌≤◌, ◌<◌, get_or, eqb, Err, Ok}
+use Rattle.dispatcher.specs.Dispatcher.{used_at}
 use Rattle.host.specs.declared.controller.HostController.{HostController}
 use Rattle.term3.specs.Calls.{Call, submit, whose_turn, start, driver, Answer, call}
 use Rattle.term3.specs.Callers.{requested, Callers, no_callers, hears}
@@ -18,17 +17,17 @@ pub record Charge : Type 0 where
 abbrev pub charges : Callers → (c : Call) → Answer c → List Charge
 charges t (submit c x n f) a = []
 charges t (whose_turn f) a = []
-charges t (start k f buf m log) (Started c) = record { caller = c; bytes = requested (t.came c) } ∷ []
-charges t (start k f buf m log) (refused_start why) = []
+charges t (start k f buf m log) (Ok c) = record { caller = c; bytes = requested (t.came c) } ∷ []
+charges t (start k f buf m log) (Err why) = []
 charges t (driver c e) a = []
 
 -- The frame number last seen, s before the call: "Every coming, look and start brings the frame number", "refused ones left out".
 abbrev pub seen : ℕ → (c : Call) → Answer c → ℕ
-seen s (submit c x n f) Accepted = f
-seen s (submit c x n f) (refused_submit why) = s
+seen s (submit c x n f) (Ok tt) = f
+seen s (submit c x n f) (Err why) = s
 seen s (whose_turn f) a = f
-seen s (start k f buf m log) (Started c) = f
-seen s (start k f buf m log) (refused_start why) = s
+seen s (start k f buf m log) (Ok c) = f
+seen s (start k f buf m log) (Err why) = s
 seen s (driver c e) a = s
 
 -- "one frame is the calls, refused ones left out, from such a change to the next": the charges of each frame in turn, the last one still going on. s is the frame number last
@@ -65,4 +64,4 @@ frames_of made cs = frames_from 0 [] (no_callers made.shares) (fresh_for made) c
 pub record Frames : Type 0 where
   pub within : (made : Made) (cs : List Call) → AllWithin made.shares (frames_of made cs)
   -- "the spent counts": those of the state.
-  pub summed : (made : Made) (cs : List Call) (c : ℕ) → c < 8 → sum_of c (last_of (frames_of made cs)) ≡ get_or (after (fresh_for made) cs).dispatcher.used c 0
+  pub summed : (made : Made) (cs : List Call) (c : ℕ) → c < 8 → sum_of c (last_of (frames_of made cs)) ≡ used_at (after (fresh_for made) cs).dispatcher c

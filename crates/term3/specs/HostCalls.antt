@@ -1,8 +1,6 @@
 -- The host controller's calls as the interface of term 3.
-use Rattle.std.specs.Prelude.{◌≡◌, List, [], ◌∷◌, ℕ, ◌≤◌, ◌<◌, length, get_or}
+use Rattle.std.specs.Prelude.{◌≡◌, List, [], ◌∷◌, ℕ, ◌≤◌, ◌<◌, length, get_or, Err, Ok}
 use Rattle.transfers.specs.declared.driver.DeskRule.{DeskRule}
-use Rattle.host.specs.declared.answers.SubmitAnswer.TheVariants.{Accepted, Refused as refused_submit}
-use Rattle.host.specs.declared.answers.StartAnswer.TheVariants.{Started, Refused as refused_start}
 use Rattle.host.specs.declared.controller.HostController.{HostController}
 use Rattle.host.specs.Controller.{fresh_host}
 use Rattle.record.specs.Grammar.{Bytes}
@@ -42,11 +40,11 @@ AllLent (c ∷ cs) = Lent c × AllLent cs
 
 -- No coming, start or step is refused.
 abbrev pub Unrefused : (c : Call) → Answer c → Type 0
-Unrefused (submit c x n f) Accepted = Unit {0}
-Unrefused (submit c x n f) (refused_submit why) = ⊥
+Unrefused (submit c x n f) (Ok tt) = Unit {0}
+Unrefused (submit c x n f) (Err why) = ⊥
 Unrefused (whose_turn f) a = Unit {0}
-Unrefused (start k f buf m log) (Started c) = Unit {0}
-Unrefused (start k f buf m log) (refused_start why) = ⊥
+Unrefused (start k f buf m log) (Ok c) = Unit {0}
+Unrefused (start k f buf m log) (Err why) = ⊥
 Unrefused (driver c e) a = Premises.Unrefused c a
 
 -- Along a list.

@@ -1,17 +1,16 @@
 -- What the calls show.
-use Rattle.std.specs.Prelude.{List, [], ◌∷◌, ◌++◌, ℕ}
-use Rattle.host.specs.declared.answers.StartAnswer.{StartAnswer}
-use Rattle.host.specs.declared.answers.StartAnswer.TheVariants.{Started, Refused as refused_start}
+use Rattle.std.specs.Prelude.{List, [], ◌∷◌, ◌++◌, ℕ, Err, Ok, Result}
 use Rattle.host.specs.declared.controller.HostController.{HostController}
 use Rattle.record.specs.Told.{Note, began, nothing, its_memory, Shown}
 use Rattle.record.specs.Shown as D
 use Rattle.term3.specs.Calls.{Call, submit, whose_turn, start, driver, Effect, call}
 use Rattle.term3.specs.Callers.{Callers, hears}
+use Rattle.transfers.specs.declared.refusal.Refusal.{Refusal}
 
 -- A start begins what its caller came with, with the buffer lent.
-abbrev pub start_note : Callers → StartAnswer → List ℕ → Note
-start_note t (Started c) buf = began (t.came c).fields buf
-start_note t (refused_start why) buf = nothing
+abbrev pub start_note : Callers → Result ℕ Refusal → List ℕ → Note
+start_note t (Ok c) buf = began (t.came c).fields buf
+start_note t (Err why) buf = nothing
 
 -- A coming and a look are lent no log and no memory: there is nothing to show. A start shows what a begin does; the driver's calls what they do there.
 abbrev pub shown : Callers → (c : Call) → Effect c → List Shown

@@ -1,12 +1,8 @@
 -- Open, poll, on_irq and detection write no register of the control pipe, and set FULL nowhere. Assumes nothing.
-use Rattle.std.proofs.Common.{◌≡◌, ℕ, ◌+◌, ◌-◌, ◌/◌, ◌%◌, ◌<◌, ◌≤◌, Bool, true, false, not, List, [], ◌∷◌, ◌++◌, refl, arith, lit<, lit≤, ne_eqb}
+use Rattle.std.proofs.Common.{◌≡◌, ℕ, ◌+◌, ◌-◌, ◌/◌, ◌%◌, ◌<◌, ◌≤◌, Bool, true, false, not, List, [], ◌∷◌, ◌++◌, refl, arith, lit<, lit≤, ne_eqb, None, Option, Some}
 use Rattle.pool.specs.declared.bitset.BitSet.{BitSet}
 use Rattle.pool.specs.declared.async_pool.PoolIndex.{PoolIndex}
-use Rattle.pool.specs.declared.async_pool.OptionIndex.{OptionIndex}
-use Rattle.pool.specs.declared.async_pool.OptionIndex.TheVariants.{Some as SomeIndex, None as NoIndex}
 use Rattle.pool.specs.declared.pipe.PipeNumber.{PipeNumber}
-use Rattle.pool.specs.declared.pipe.OptionPipe.{OptionPipe}
-use Rattle.pool.specs.declared.pipe.OptionPipe.TheVariants.{Some as SomePipe, None as NoPipe}
 use Rattle.pool.specs.Pool.{alloc_of}
 use Rattle.pool.specs.Pipe.{offset, pipe_of}
 use Rattle.pool.proofs.Pipes.{pipe_counted}
@@ -34,14 +30,14 @@ unfolding opening_pipe open_free
 of_open T d address extras endpoint size interval log none some =
     go (log_fits log) (address_good address) (endpoint_good endpoint) (size_good size) refl
   where
-    number : size ≤ 64 → (at : PoolIndex) (p : BitSet) (o : OptionPipe) → pipe_of at ≡ o
+    number : size ≤ 64 → (at : PoolIndex) (p : BitSet) (o : Option PipeNumber) → pipe_of at ≡ o
         → T (open_number o at p d.pipes address extras endpoint size interval).writes
-    number h at p NoPipe e = none
-    number h at p (SomePipe n) e = let c = pipe_counted at n e in some n.0 (omega arith) (omega arith) h
+    number h at p None e = none
+    number h at p (Some n) e = let c = pipe_counted at n e in some n.0 (omega arith) (omega arith) h
 
-    index : size ≤ 64 → (p : BitSet) (o : OptionIndex) → T (open_index o p d.pipes address extras endpoint size interval).writes
-    index h p NoIndex = none
-    index h p (SomeIndex at) = number h at p (pipe_of at) refl
+    index : size ≤ 64 → (p : BitSet) (o : Option PoolIndex) → T (open_index o p d.pipes address extras endpoint size interval).writes
+    index h p None = none
+    index h p (Some at) = number h at p (pipe_of at) refl
 
     go : (l a e s : Bool) → size_good size ≡ s → T (open_if l a e s d.pipes address extras endpoint size interval).writes
     go false a e s f = none
@@ -58,11 +54,11 @@ pub of_poll : (T : List Write → Type 0) (d : Driver) (n : PipeNumber) (s : Pip
 unfolding polling_pipe poll_full
 of_poll T d n s pm log none wait full = go (lent_fits pm log) (index_open d.pipes.opened n) (bit 15 s.buffer) refl
   where
-    go : (b : Bool) (o : OptionIndex) (f : Bool) → index_open d.pipes.opened n ≡ o → T (poll_if b o f d.pipes n s pm).writes
+    go : (b : Bool) (o : Option PoolIndex) (f : Bool) → index_open d.pipes.opened n ≡ o → T (poll_if b o f d.pipes n s pm).writes
     go false o f e = none
-    go true NoIndex f e = none
-    go true (SomeIndex at) false e = let c = (open_some d.pipes.opened n at e).0 in wait (omega arith) (omega arith)
-    go true (SomeIndex at) true e =
+    go true None f e = none
+    go true (Some at) false e = let c = (open_some d.pipes.opened n at e).0 in wait (omega arith) (omega arith)
+    go true (Some at) true e =
         let c = (open_some d.pipes.opened n at e).0 in
         let i : n.0 - offset ≡ at.0 = omega arith in
         rw (← i) (full (not (held_of d.pipes n).toggle) (omega arith) (omega arith))

@@ -1,9 +1,7 @@
 -- Laws of arming and retiring: few writes, at most two in flight, offset and rest kept, only the slots stored to. Assumes nothing.
-use Rattle.std.proofs.Common.{◌≡◌, ℕ, ◌+◌, ◌<◌, ◌≤◌, Bool, true, false, not, ◌&&◌, ltb, List, length, take, drop, refl, ◌∙◌, arith, length-append, ltb-true}
+use Rattle.std.proofs.Common.{◌≡◌, ℕ, ◌+◌, ◌<◌, ◌≤◌, Bool, true, false, not, ◌&&◌, ltb, List, length, take, drop, refl, ◌∙◌, arith, length-append, ltb-true, None, Option, Some}
 use lib.Seq.{length-sets}
 use Rattle.cutting.specs.declared.packetiser.Arm.{Arm}
-use Rattle.cutting.specs.declared.packetiser.OptionArm.{OptionArm}
-use Rattle.cutting.specs.declared.packetiser.OptionArm.TheVariants.{Some, None}
 use Rattle.cutting.specs.declared.packetiser.InPacketiser.{InPacketiser}
 use Rattle.cutting.specs.declared.packetiser.OutCounters.{OutCounters}
 use Rattle.cutting.specs.declared.depacketiser.InDepacketiser.{InDepacketiser}
@@ -30,7 +28,7 @@ arm_three f a = refl
 
 -- ---- IN
 
-in_armed_few : (a : OptionArm) (c : InPacketiser) (k : ℕ) → length (in_armed a c k).writes ≤ 3
+in_armed_few : (a : Option Arm) (c : InPacketiser) (k : ℕ) → length (in_armed a c k).writes ≤ 3
 in_armed_few None c k = omega arith
 in_armed_few (Some a) c k = omega (arith, arm_three false a)
 
@@ -42,7 +40,7 @@ in_few w c k = go (may_arm w k c.slot)
     go false = omega arith
     go true = in_armed_few (in_next c).arm (in_next c).rest k
 
-in_armed_flight : (a : OptionArm) (c : InPacketiser) (k : ℕ) → k < 2 → (in_armed a c k).inflight ≤ 2
+in_armed_flight : (a : Option Arm) (c : InPacketiser) (k : ℕ) → k < 2 → (in_armed a c k).inflight ≤ 2
 in_armed_flight None c k h = omega arith
 in_armed_flight (Some a) c k h = omega arith
 
@@ -66,7 +64,7 @@ in_two_flight w c k h = let g = in_arm w c k in in_flight w g.packets g.inflight
 
 -- ---- OUT
 
-out_armed_few : (a : OptionArm) (c : OutCounters) (k off : ℕ) (buf m : List ℕ) → length (out_armed a c k off buf m).writes ≤ 3
+out_armed_few : (a : Option Arm) (c : OutCounters) (k off : ℕ) (buf m : List ℕ) → length (out_armed a c k off buf m).writes ≤ 3
 out_armed_few None c k off buf m = omega arith
 out_armed_few (Some a) c k off buf m = omega (arith, arm_three true a)
 
@@ -78,7 +76,7 @@ out_few w c k buf m = go (may_arm w k c.slot)
     go false = omega arith
     go true = out_armed_few (out_next c).arm (out_next c).rest k c.offset buf m
 
-out_armed_flight : (a : OptionArm) (c : OutCounters) (k off : ℕ) (buf m : List ℕ) → k < 2 → (out_armed a c k off buf m).inflight ≤ 2
+out_armed_flight : (a : Option Arm) (c : OutCounters) (k off : ℕ) (buf m : List ℕ) → k < 2 → (out_armed a c k off buf m).inflight ≤ 2
 out_armed_flight None c k off buf m h = omega arith
 out_armed_flight (Some a) c k off buf m h = omega arith
 
@@ -90,7 +88,7 @@ out_flight w c k buf m h = go (may_arm w k c.slot) (may_flight w k c.slot)
     go false f = h
     go true f = out_armed_flight (out_next c).arm (out_next c).rest k c.offset buf m (f refl)
 
-out_armed_packets : (a : OptionArm) (c : OutCounters) (k off : ℕ) (buf m : List ℕ) → (out_armed a c k off buf m).packets ≡ c
+out_armed_packets : (a : Option Arm) (c : OutCounters) (k off : ℕ) (buf m : List ℕ) → (out_armed a c k off buf m).packets ≡ c
 out_armed_packets None c k off buf m = refl
 out_armed_packets (Some a) c k off buf m = refl
 
@@ -103,7 +101,7 @@ out_arm_sum w c k buf m = go (may_arm w k c.slot)
     go false = refl
     go true = rw (out_armed_packets (out_next c).arm (out_next c).rest k c.offset buf m) (out_sum c)
 
-out_armed_room : (a : OptionArm) (c : OutCounters) (k off : ℕ) (buf m : List ℕ) → length (out_armed a c k off buf m).memory ≡ length m
+out_armed_room : (a : Option Arm) (c : OutCounters) (k off : ℕ) (buf m : List ℕ) → length (out_armed a c k off buf m).memory ≡ length m
 out_armed_room None c k off buf m = refl
 out_armed_room (Some a) c k off buf m = length-sets m (slot_address a.slot) (take a.length (drop off buf))
 

@@ -1,9 +1,7 @@
 -- A poll of a pipe sees nothing of the other pipes. Assumes nothing.
-use Rattle.std.proofs.Common.{◌≡◌, ℕ, ◌-◌, ◌≤◌, Bool, true, false, cond, not, ◌&&◌, eqb, leb, List, ◌++◌, length, get_or, take, drop, set, replicate, sym, refl, ap, ◌∙◌, ap₂, arith, get_or-set_same, take-take}
+use Rattle.std.proofs.Common.{◌≡◌, ℕ, ◌-◌, ◌≤◌, Bool, true, false, cond, not, ◌&&◌, eqb, leb, List, ◌++◌, length, get_or, take, drop, set, replicate, sym, refl, ap, ◌∙◌, ap₂, arith, get_or-set_same, take-take, None, Option, Some}
 use Rattle.pool.specs.declared.bitset.BitSet.{BitSet}
 use Rattle.pool.specs.declared.async_pool.PoolIndex.{PoolIndex}
-use Rattle.pool.specs.declared.async_pool.OptionIndex.{OptionIndex}
-use Rattle.pool.specs.declared.async_pool.OptionIndex.TheVariants.{Some as SomeIndex, None as NoIndex}
 use Rattle.pool.specs.declared.pipe.PipeNumber.{PipeNumber}
 use Rattle.pool.specs.Set.{has}
 use Rattle.pool.specs.Pipe.{offset, pipes, index_of, Counted}
@@ -21,16 +19,16 @@ same_index : (n : PipeNumber) (p p' : BitSet) → is_open p n ≡ is_open p' n �
 unfolding index_open
 same_index n p p' = go (index_of n)
   where
-    by : (i : PoolIndex) (b b' : Bool) → is_some (cond b (SomeIndex i) NoIndex) ≡ is_some (cond b' (SomeIndex i) NoIndex)
-        → cond b (SomeIndex i) NoIndex ≡ cond b' (SomeIndex i) NoIndex
+    by : (i : PoolIndex) (b b' : Bool) → is_some (cond b (Some i) None) ≡ is_some (cond b' (Some i) None)
+        → cond b (Some i) None ≡ cond b' (Some i) None
     by i true true e = refl
     by i true false e = absurd (let z : ◌≡◌ {A = ℕ} 0 1 = cc in omega arith)
     by i false true e = absurd (let z : ◌≡◌ {A = ℕ} 0 1 = cc in omega arith)
     by i false false e = refl
 
-    go : (o : OptionIndex) → is_some (handed_out p o) ≡ is_some (handed_out p' o) → handed_out p o ≡ handed_out p' o
-    go NoIndex e = refl
-    go (SomeIndex i) e = by i (has p.0 i.0) (has p'.0 i.0) e
+    go : (o : Option PoolIndex) → is_some (handed_out p o) ≡ is_some (handed_out p' o) → handed_out p o ≡ handed_out p' o
+    go None e = refl
+    go (Some i) e = by i (has p.0 i.0) (has p'.0 i.0) e
 
 -- At most 64 bytes of the area are looked at.
 same_data : (pm pm' : List ℕ) (n k : ℕ) → k ≤ 64 → take 64 (drop (pipe_area n) pm) ≡ take 64 (drop (pipe_area n) pm')
@@ -74,11 +72,11 @@ module _ (n : PipeNumber) (s : PipeSample) (ps ps' : Pipes) (pm pm' log log' : L
         };
       }
 
-  like : (b : Bool) (o : OptionIndex) (f : Bool) → lent_fits pm log ≡ b → index_open ps.opened n ≡ o → Like (poll_if b o f ps n s pm) (poll_if b o f ps' n s pm')
+  like : (b : Bool) (o : Option PoolIndex) (f : Bool) → lent_fits pm log ≡ b → index_open ps.opened n ≡ o → Like (poll_if b o f ps n s pm) (poll_if b o f ps' n s pm')
   like false o f u e = record { answer = refl; packet = refl; writes = refl; next = same }
-  like true NoIndex f u e = record { answer = refl; packet = refl; writes = refl; next = same }
-  like true (SomeIndex at) false u e = record { answer = refl; packet = refl; writes = refl; next = same }
-  like true (SomeIndex at) true u e = full at (open_some ps.opened n at e).0 (lent_sizes pm log u).0
+  like true None f u e = record { answer = refl; packet = refl; writes = refl; next = same }
+  like true (Some at) false u e = record { answer = refl; packet = refl; writes = refl; next = same }
+  like true (Some at) true u e = full at (open_some ps.opened n at e).0 (lent_sizes pm log u).0
 
 pub isolated : Isolated
 unfolding polling_pipe

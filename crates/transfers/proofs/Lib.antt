@@ -1,7 +1,6 @@
 pub mod Logs
 pub mod Masked
 pub mod Stores
-pub mod Errors
 pub mod Counts
 pub mod Armings
 pub mod Telling

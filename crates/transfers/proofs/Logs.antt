@@ -1,7 +1,9 @@
 -- Laws of the log: writes one after another, and the words that stay. Assumes nothing.
 use Rattle.std.proofs.Common.{◌≡◌, ℕ, ◌+◌, ◌*◌, ◌≤◌, List, [], ◌∷◌, ◌++◌, length, drop, sym, refl, ap, ◌∙◌, ap₂, add-zero, arith, length-append}
 use lib.Seq.{sets, sets-eq, length-sets}
+use Rattle.transfers.specs.declared.log.Log.{Log}
 use Rattle.transfers.specs.Log.{Write, wr, words, logged, Wrote}
+use Rattle.transfers.specs.Puts.{Puts}
 use Rattle.pool.proofs.Stores.{sets_append}
 
 words_append : (a b : List Write) → words (a ++ b) ≡ words a ++ words b
@@ -26,6 +28,10 @@ then {l} {l₁} {l₂} {k} {k₁} {k₂} {a} {b} p q = record {
       ∙ ap (λ (r : List ℕ). sets l (3 * k) r) (sym (words_append a b));
   count = omega (arith, p.count, q.count, length-append a b);
 }
+
+-- The same of the log itself.
+pub puts_then : {l m n : Log} {a b : List Write} → Puts l a m → Puts m b n → Puts l (a ++ b) n
+puts_then p q = record { same = q.same ∙ p.same; wrote = then p.wrote q.wrote }
 
 pub same_room : {l l' : List ℕ} {k k' : ℕ} {ws : List Write} → Wrote l k ws l' k' → length l' ≡ length l
 same_room {l} {k = k} {ws = ws} p = ap length p.log ∙ length-sets l (3 * k) (words ws)

@@ -1,34 +1,18 @@
 -- Laws of the interrupt pipes that the proofs of open, close and poll cite. Assumes nothing.
-use Rattle.std.proofs.Common.{◌≡◌, ℕ, zero, suc, ◌+◌, ◌-◌, ◌<◌, ◌≤◌, Bool, true, false, cond, ◌&&◌, leb, List, ◌++◌, length, get_or, take, drop, set, replicate, sym, refl, ap, ◌∙◌, ap₂, true≢false, arith, length-drop, length-take-le, get_or-drop, eqb-true, leb-true}
+use Rattle.std.proofs.Common.{◌≡◌, ℕ, zero, suc, ◌+◌, ◌-◌, ◌≤◌, Bool, true, false, cond, ◌&&◌, leb, List, ◌++◌, length, take, drop, replicate, sym, refl, ap, ◌∙◌, true≢false, arith, length-drop, length-take-le, eqb-true, leb-true, Err, None, Option, Some}
 use lib.Seq.{sets, sets-eq}
 use Rattle.pool.specs.declared.bitset.BitSet.{BitSet}
 use Rattle.pool.specs.declared.async_pool.PoolIndex.{PoolIndex}
-use Rattle.pool.specs.declared.async_pool.OptionIndex.{OptionIndex}
-use Rattle.pool.specs.declared.async_pool.OptionIndex.TheVariants.{Some as SomeIndex, None as NoIndex}
 use Rattle.pool.specs.declared.pipe.PipeNumber.{PipeNumber}
 use Rattle.pool.specs.Set.{has}
 use Rattle.pool.specs.Pipe.{index_of, Counted}
-use Rattle.pool.proofs.Stores.{copy_more}
 use Rattle.pool.proofs.Pipes.{index_counted}
 use Rattle.transfers.specs.declared.refusal.Refusal.{Refusal}
 use Rattle.transfers.specs.declared.driver.Pipes.{Pipes}
-use Rattle.transfers.specs.declared.pipes.OpenAnswer.TheVariants.{Refused as OpenRefused}
-use Rattle.transfers.specs.declared.pipes.PollAnswer.TheVariants.{Refused as PollRefused}
-use Rattle.transfers.specs.declared.pipes.PipesOpened.{PipesOpened}
-use Rattle.transfers.specs.declared.pipes.PipesPolled.{PipesPolled}
+use Rattle.transfers.specs.declared.pipes.Opened.{Opened}
+use Rattle.transfers.specs.declared.pipes.Polled.{Polled}
 use Rattle.transfers.specs.Memory.{memory_fits, log_fits, lent_fits, MemoryFits, LogFits}
 use Rattle.transfers.specs.Pipes.{refuse_open, DidOpen, refuse_poll, DidPoll, no_packet, pipe_area, packet_data, handed_out, index_open}
-
--- A refusal leaves the pipes and the log as they came.
-pub refused_open : (ps : Pipes) (why : Refusal) (r : PipesOpened) (l : List ℕ)
-    → (r.next ≡ ps) × (r.answer ≡ OpenRefused why) × (r.writes ≡ 0)
-    → DidOpen (refuse_open ps why) r.next r.answer r.writes l l
-refused_open ps why r l e = record { next = e.0; answer = e.1; log = record { log = refl; count = e.2 } }
-
-pub refused_poll : (ps : Pipes) (why : Refusal) (r : PipesPolled) (l : List ℕ)
-    → (r.next ≡ ps) × (r.answer ≡ PollRefused why) × (r.packet ≡ no_packet) × (r.writes ≡ 0)
-    → DidPoll (refuse_poll ps why) r.next r.answer r.packet r.writes l l
-refused_poll ps why r l e = record { next = e.0; answer = e.1; packet = e.2; log = record { log = refl; count = e.3 } }
 
 -- A number within bounds.
 pub between : (lo x hi : ℕ) → (leb lo x && leb x hi) ≡ true → (lo ≤ x) × (x ≤ hi)
@@ -39,7 +23,7 @@ between lo x hi = go (leb lo x) (leb x hi) refl refl
     go true false p q e = absurd (true≢false (sym e))
     go false b p q e = absurd (true≢false (sym e))
 
-abbrev zeros : ℕ → List ℕ
+abbrev pub zeros : ℕ → List ℕ
 zeros n = replicate n 0
 
 drop_zeros : (n k : ℕ) → drop k (zeros n) ≡ zeros (n - k)
@@ -47,25 +31,10 @@ drop_zeros n zero = let e : n ≡ n - 0 = omega arith in ap zeros e
 drop_zeros zero (suc k) = let e : 0 ≡ 0 - suc k = omega arith in ap zeros e
 drop_zeros (suc n) (suc k) = let e : n - k ≡ suc n - suc k = omega arith in drop_zeros n k ∙ ap zeros e
 
--- The bytes that are copied after i turns of the loop.
-unfoldable pub copied : List ℕ → ℕ → ℕ → List ℕ
-copied pm n i = sets (zeros 64) 0 (take i (drop (pipe_area n) pm))
-
-pub copied_none : (pm : List ℕ) (n : ℕ) → copied pm n 0 ≡ replicate 64 0
-unfolding copied
-copied_none pm n = refl
-
-pub copied_more : (pm : List ℕ) (n i : ℕ) → pipe_area n + i < length pm
-    → set (copied pm n i) i (get_or pm (pipe_area n + i) 0) ≡ copied pm n (i + 1)
-unfolding copied
-copied_more pm n i h =
-    let at : i ≡ 0 + i = omega arith in
-    ap₂ (λ (j x : ℕ). set (sets (zeros 64) 0 (take i (drop (pipe_area n) pm))) j x) at (sym (get_or-drop (pipe_area n) pm i 0))
-    ∙ copy_more (zeros 64) (drop (pipe_area n) pm) 0 i (omega (arith, length-drop (pipe_area n) pm))
-
-pub copied_all : (pm : List ℕ) (n k : ℕ) → k ≤ 64 → pipe_area n + k ≤ length pm → copied pm n k ≡ packet_data pm n k
-unfolding packet_data copied
-copied_all pm n k h room =
+-- The bytes copied to the front of a packet of zeros.
+pub copied : (pm : List ℕ) (n k : ℕ) → k ≤ 64 → pipe_area n + k ≤ length pm → sets (zeros 64) 0 (take k (drop (pipe_area n) pm)) ≡ packet_data pm n k
+unfolding packet_data
+copied pm n k h room =
     let len : 0 + length (take k (drop (pipe_area n) pm)) ≡ k =
     omega (arith, length-take-le k (drop (pipe_area n) pm) (omega (arith, length-drop (pipe_area n) pm))) in
     sets-eq (take k (drop (pipe_area n) pm)) (zeros 64) 0 (omega arith)
@@ -81,18 +50,18 @@ lent_sizes pm log = go (memory_fits pm) (log_fits log) refl refl
     go false b p q e = absurd (true≢false (sym e))
 
 -- A pipe that is open has a number from 1 to 15, and the pool has handed its index out.
-pub open_some : (p : BitSet) (n : PipeNumber) (at : PoolIndex) → index_open p n ≡ SomeIndex at
+pub open_some : (p : BitSet) (n : PipeNumber) (at : PoolIndex) → index_open p n ≡ Some at
     → Counted at n × (has p.0 at.0 ≡ true)
 unfolding index_open
 open_some p n at = go (index_of n) refl
   where
-    held : (i : PoolIndex) (b : Bool) → has p.0 i.0 ≡ b → index_of n ≡ SomeIndex i
-        → cond b (SomeIndex i) NoIndex ≡ SomeIndex at → Counted at n × (has p.0 at.0 ≡ true)
+    held : (i : PoolIndex) (b : Bool) → has p.0 i.0 ≡ b → index_of n ≡ Some i
+        → cond b (Some i) None ≡ Some at → Counted at n × (has p.0 at.0 ≡ true)
     held i true h f e =
         let same : i ≡ at = cc in
-        (index_counted at n (f ∙ ap (λ j. SomeIndex j) same), ap (λ (j : PoolIndex). has p.0 j.0) (sym same) ∙ h)
+        (index_counted at n (f ∙ ap (λ j. Some j) same), ap (λ (j : PoolIndex). has p.0 j.0) (sym same) ∙ h)
     held i false h f e = absurd (let z : ◌≡◌ {A = ℕ} 0 1 = cc in omega arith)
 
-    go : (o : OptionIndex) → index_of n ≡ o → handed_out p o ≡ SomeIndex at → Counted at n × (has p.0 at.0 ≡ true)
-    go (SomeIndex i) f e = held i (has p.0 i.0) refl f e
-    go NoIndex f e = absurd (let z : ◌≡◌ {A = ℕ} 0 1 = cc in omega arith)
+    go : (o : Option PoolIndex) → index_of n ≡ o → handed_out p o ≡ Some at → Counted at n × (has p.0 at.0 ≡ true)
+    go (Some i) f e = held i (has p.0 i.0) refl f e
+    go None f e = absurd (let z : ◌≡◌ {A = ℕ} 0 1 = cc in omega arith)

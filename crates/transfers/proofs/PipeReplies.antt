@@ -1,9 +1,7 @@
 -- Open, close, poll, interrupt routine and detection answer as document 01's rows have it, in its numbers. Assumes nothing.
-use Rattle.std.proofs.Common.{◌≡◌, ℕ, ◌+◌, ◌-◌, ◌<◌, ◌≤◌, Bool, true, false, cond, not, ◌&&◌, ltb, leb, List, refl, ap, ◌∙◌, arith, ltb-false, ltb-true, le-ltb, lt-ltb, leb-false, leb-true}
+use Rattle.std.proofs.Common.{◌≡◌, ℕ, ◌+◌, ◌-◌, ◌<◌, ◌≤◌, Bool, true, false, cond, not, ◌&&◌, ltb, leb, List, refl, ap, ◌∙◌, arith, ltb-false, ltb-true, le-ltb, lt-ltb, leb-false, leb-true, None, Option, Some}
 use Rattle.pool.specs.declared.bitset.BitSet.{BitSet}
 use Rattle.pool.specs.declared.async_pool.PoolIndex.{PoolIndex}
-use Rattle.pool.specs.declared.async_pool.OptionIndex.{OptionIndex}
-use Rattle.pool.specs.declared.async_pool.OptionIndex.TheVariants.{Some as SomeIndex, None as NoIndex}
 use Rattle.pool.specs.declared.pipe.PipeNumber.{PipeNumber}
 use Rattle.pool.specs.Set.{has, lowest_out}
 use Rattle.pool.specs.Pool.{hand_out, alloc_of}
@@ -48,7 +46,7 @@ free_row ps address extras endpoint size interval = go (ltb low 15) refl
     low = lowest_out ps.opened.0
 
     go : (b : Bool) → ltb low 15 ≡ b
-        → (let a = cond b (hand_out (pool_of ps.opened) low) (record { pool = pool_of ps.opened; index = NoIndex }) in
+        → (let a = cond b (hand_out (pool_of ps.opened) low) (record { pool = pool_of ps.opened; index = None }) in
         open_reply (open_index a.index a.pool.allocated ps address extras endpoint size interval).answer)
         ≡ unless (ltb (lowest_shut ps.opened.0) 15) 10 (result (lowest_shut ps.opened.0 + 1))
     go true t = rw (shut_below ps.opened.0 (ltb-true low 15 t), t)
@@ -81,7 +79,7 @@ below n h = go (leb n 15) refl
     go false e = le-ltb (n - 1) 15 (omega (arith, leb-false n 15 e))
 
 -- A pipe has an index among the open ones exactly where the row says so.
-by_number : {A : Type 0} (f : OptionIndex → A) (p q : A) (s : BitSet) (n : PipeNumber) → f NoIndex ≡ q → ((at : PoolIndex) → f (SomeIndex at) ≡ p)
+by_number : {A : Type 0} (f : Option PoolIndex → A) (p q : A) (s : BitSet) (n : PipeNumber) → f None ≡ q → ((at : PoolIndex) → f (Some at) ≡ p)
     → f (index_open s n) ≡ cond (number_open s.0 n.0) p q
 unfolding index_open index_of has
 by_number f p q s n none some = go (leb 1 n.0) (leb n.0 15) refl refl
@@ -89,12 +87,12 @@ by_number f p q s n none some = go (leb 1 n.0) (leb n.0 15) refl refl
     at : PoolIndex
     at = record { 0 = n.0 - 1 }
 
-    held : (b : Bool) → f (cond b (SomeIndex at) NoIndex) ≡ cond b p q
+    held : (b : Bool) → f (cond b (Some at) None) ≡ cond b p q
     held true = some at
     held false = none
 
     go : (a b : Bool) → leb 1 n.0 ≡ a → leb n.0 15 ≡ b
-        → f (handed_out s (cond (a && ltb (n.0 - 1) 15) (SomeIndex at) NoIndex)) ≡ cond (a && b && bit (n.0 - 1) s.0) p q
+        → f (handed_out s (cond (a && ltb (n.0 - 1) 15) (Some at) None)) ≡ cond (a && b && bit (n.0 - 1) s.0) p q
     go false b e h = none
     go true true e h = rw (below n.0 (leb-true 1 n.0 e) ∙ h) (held (bit (n.0 - 1) s.0))
     go true false e h = rw (below n.0 (leb-true 1 n.0 e) ∙ h) none

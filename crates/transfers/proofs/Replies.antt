@@ -1,5 +1,5 @@
 -- Every call answers as document 01's rows have it, in its numbers. Assumes nothing.
-use Rattle.std.proofs.Common.{◌≡◌, ℕ, ◌-◌, Bool, true, false, cond, not, ◌&&◌, ◌||◌, eqb, ltb, leb, List, length, take, drop, sym, refl, ap, ◌∙◌, true≢false, arith, ltb-false, ltb-true, le-ltb, lt-ltb}
+use Rattle.std.proofs.Common.{◌≡◌, ℕ, ◌-◌, Bool, true, false, cond, not, ◌&&◌, ◌||◌, eqb, ltb, leb, List, length, take, drop, sym, refl, ap, ◌∙◌, true≢false, arith, ltb-false, ltb-true, le-ltb, lt-ltb, None, Ok, Option, Some}
 use lib.Seq.{sets}
 use lib.Bits.{bit_and}
 use Rattle.cutting.specs.declared.transfer_type.TransferType.{TransferType}
@@ -14,12 +14,8 @@ use Rattle.transfers.specs.declared.wire.SetupPacket.{SetupPacket}
 use Rattle.transfers.specs.declared.wire.Direction.{Direction}
 use Rattle.transfers.specs.declared.wire.Direction.TheVariants.{In, Out}
 use Rattle.transfers.specs.declared.refusal.Refusal.TheVariants.{Usb}
-use Rattle.transfers.specs.declared.answers.StepAnswer.TheVariants.{Done}
 use Rattle.transfers.specs.declared.sample.Sample.{Sample}
-use Rattle.transfers.specs.declared.sample.Poll.TheVariants.{Pending, Ready}
 use Rattle.transfers.specs.declared.sample.Found.TheVariants.{Complete, Failed, Neither}
-use Rattle.transfers.specs.declared.driver.Transfer.{Transfer}
-use Rattle.transfers.specs.declared.driver.Transfer.TheVariants.{Idle, Busy}
 use Rattle.transfers.specs.declared.driver.Run.{Run}
 use Rattle.transfers.specs.declared.driver.Request.{Request}
 use Rattle.transfers.specs.declared.driver.Kind.{Kind}
@@ -40,10 +36,11 @@ use Rattle.transfers.specs.Step.{setup_done, setup_step, in_received, status_cou
 use Rattle.transfers.specs.Calls.{step_if, may_step, step_lent, step_of, cancel_if, stage_parity, cancel_of, Beginning, fields_refusal, begin_refusal, begin_or, is_idle, begins_control, begin_control_of, bulk_request, begins_bulk_in, begin_bulk_in_of, begins_bulk_out, begin_bulk_out_of}
 use Rattle.transfers.specs.Rows.{unless, control_row, bulk_row, setup_row, phase_count, bulk_count, end_row, slot_full, slot_length, too_long_of, complete_row, goes_on_row, error_row, acts_row, under_way_row, step_row_of, cancel_row}
 use Rattle.transfers.proofs.Readiness.{both, may_parts}
+use Rattle.transfers.specs.declared.answers.Step.TheVariants.{Done}
 
 -- ---- begin
 
-begins : (t : Transfer) (m : List ℕ) (b : Beginning) → begin_reply b.answer ≡ result tt → (l i a e p n : Bool)
+begins : (t : Option Run) (m : List ℕ) (b : Beginning) → begin_reply b.answer ≡ result tt → (l i a e p n : Bool)
     → begin_reply (begin_or (begin_refusal l i (fields_refusal a e p n)) t m b).answer
     ≡ unless l 15 (unless i 8 (unless a 12 (unless e 11 (unless p 13 (unless n 14 (result tt))))))
 begins t m b k false i a e p n = refl
@@ -54,19 +51,19 @@ begins t m b k true true true true false n = refl
 begins t m b k true true true true true false = refl
 begins t m b k true true true true true true = k
 
-pub control_row_lem : (t : Transfer) (a : ℕ) (x : TransferExtras) (p : ℕ) (s : SetupPacket) (ph : DataPhase) (buf m log : List ℕ)
+pub control_row_lem : (t : Option Run) (a : ℕ) (x : TransferExtras) (p : ℕ) (s : SetupPacket) (ph : DataPhase) (buf m log : List ℕ)
     → begin_reply (begin_control_of t a x p s ph buf m log).answer ≡ control_row t a p m log
 unfolding begin_control_of
 control_row_lem t a x p s ph buf m log =
     begins t m (begins_control a x p s ph (length buf) m) refl (lent_fits m log) (is_idle t) (address_good a) true (size_good p) true
 
-pub bulk_in_row : (t : Transfer) (a e p : ℕ) (k : TransferType) (b : Bool) (buf m log : List ℕ)
+pub bulk_in_row : (t : Option Run) (a e p : ℕ) (k : TransferType) (b : Bool) (buf m log : List ℕ)
     → begin_reply (begin_bulk_in_of t a e p k b buf m log).answer ≡ bulk_row t a e p buf m log
 unfolding begin_bulk_in_of
 bulk_in_row t a e p k b buf m log =
     begins t m (begins_bulk_in (bulk_request In a e p b (length buf)) k m) refl (lent_fits m log) (is_idle t) (address_good a) (endpoint_good e) (size_good p) (leb (length buf) 0xFFFF)
 
-pub bulk_out_row : (t : Transfer) (a e p : ℕ) (k : TransferType) (b : Bool) (buf m log : List ℕ)
+pub bulk_out_row : (t : Option Run) (a e p : ℕ) (k : TransferType) (b : Bool) (buf m log : List ℕ)
     → begin_reply (begin_bulk_out_of t a e p k b buf m log).answer ≡ bulk_row t a e p buf m log
 unfolding begin_bulk_out_of
 bulk_out_row t a e p k b buf m log =
@@ -154,14 +151,14 @@ in_end : (k : Kind) (status : Bool) (x : Request) (d : InDepacketiser) (m buf : 
 in_end (control c) false x d m buf h = refl
 in_end (control c) true x d m buf h = go c.phase h
   where
-    go : (ph : DataPhase) → phase_has ph true true ≡ true → step_reply (Done (status_count ph x.length)) ≡ result (done (phase_count ph x.length d.offset))
+    go : (ph : DataPhase) → phase_has ph true true ≡ true → step_reply (Ok (Done (status_count ph x.length))) ≡ result (done (phase_count ph x.length d.offset))
     go phase_in h = absurd (true≢false (sym h))
     go phase_out h = refl
     go phase_none h = refl
 in_end (bulk b) true x d m buf h = absurd (true≢false (sym h))
 in_end (bulk b) false x d m buf h = go b.direction h
   where
-    go : (e : Direction) → same true (is_in e) ≡ true → step_reply (Done d.offset) ≡ result (done (bulk_count e x.length d.offset))
+    go : (e : Direction) → same true (is_in e) ≡ true → step_reply (Ok (Done d.offset)) ≡ result (done (bulk_count e x.length d.offset))
     go In h = refl
     go Out h = absurd (true≢false (sym h))
 
@@ -169,7 +166,7 @@ out_end : (k : Kind) (x : Request) (st : OutStage) (parity : Bool) (m buf : List
     → step_reply (out_done k x st parity m buf).answer ≡ end_row k st.status x.length st.received
 out_end (control c) x st parity m buf h = status st.status h
   where
-    go : (ph : DataPhase) → phase_has ph false true ≡ true → step_reply (Done st.received) ≡ result (done (phase_count ph x.length st.received))
+    go : (ph : DataPhase) → phase_has ph false true ≡ true → step_reply (Ok (Done st.received)) ≡ result (done (phase_count ph x.length st.received))
     go phase_in h = refl
     go phase_out h = absurd (true≢false (sym h))
     go phase_none h = absurd (true≢false (sym h))
@@ -180,7 +177,7 @@ out_end (control c) x st parity m buf h = status st.status h
     status true h = go c.phase h
 out_end (bulk b) x st parity m buf h = go b.direction (both (not st.status) (same false (is_in b.direction)) h).1
   where
-    go : (e : Direction) → same false (is_in e) ≡ true → step_reply (Done x.length) ≡ result (done (bulk_count e x.length st.received))
+    go : (e : Direction) → same false (is_in e) ≡ true → step_reply (Ok (Done x.length)) ≡ result (done (bulk_count e x.length st.received))
     go In h = absurd (true≢false (sym h))
     go Out h = refl
 
@@ -273,13 +270,13 @@ acts_row_lem x st s buf m fits =
     error false false false false false false = goes_on_row_lem x st w buf m
 
     polled : (z c : Bool)
-        → step_reply (polls (cond z Pending (Ready (cond c Complete (first_of s.status errors)))) x st w buf m).answer
+        → step_reply (polls (cond z None (Some (cond c Complete (first_of s.status errors)))) x st w buf m).answer
         ≡ cond z (result (waiting false)) (cond c (complete_row x st w buf m) (error_row s.status (goes_on_row st w)))
     polled true c = refl
     polled false true = complete_row_lem x st w buf m fits
     polled false false = error (bit 31 s.status) (bit 29 s.status) (bit 26 s.status) (bit 27 s.status) (bit 25 s.status) (bit 24 s.status)
 
-pub step_row : (filling : Bool) (t : Transfer) (s : Sample) (buf m log : List ℕ)
+pub step_row : (filling : Bool) (t : Option Run) (s : Sample) (buf m log : List ℕ)
     → step_reply (step_of filling t s buf m log).answer ≡ step_row_of filling t s buf m log
 unfolding step_of
 step_row filling t s buf m log = go (lent_fits m log) t
@@ -290,19 +287,19 @@ step_row filling t s buf m log = go (lent_fits m log) t
     served_row r true false e = refl
     served_row r true true e = acts_row_lem r.request r.stage s buf m (stage_fits_lem filling r.request.kind r.stage (may_parts filling r e).0)
 
-    go : (b : Bool) (t : Transfer) → step_reply (step_lent b filling t s buf m).answer ≡ unless b 15 (under_way_row filling t s buf m)
+    go : (b : Bool) (t : Option Run) → step_reply (step_lent b filling t s buf m).answer ≡ unless b 15 (under_way_row filling t s buf m)
     go false t = refl
-    go true Idle = refl
-    go true (Busy r) = served_row r (may_step filling r) (eqb (length buf) r.request.length) refl
+    go true None = refl
+    go true (Some r) = served_row r (may_step filling r) (eqb (length buf) r.request.length) refl
 
 -- ---- cancel
 
-pub cancel_row_lem : (t : Transfer) → cancel_reply (cancel_of t).answer ≡ cancel_row t
+pub cancel_row_lem : (t : Option Run) → cancel_reply (cancel_of t).answer ≡ cancel_row t
 unfolding cancel_of
-cancel_row_lem Idle = refl
-cancel_row_lem (Busy r) = go (may_step true r) (may_step false r)
+cancel_row_lem None = refl
+cancel_row_lem (Some r) = go (may_step true r) (may_step false r)
   where
-    go : (a b : Bool) → cancel_reply (cancel_if (cond a true b) (Busy r) (toggle_in r.request.kind) (toggle_out r.request.kind (stage_parity r.stage))).answer ≡ unless (a || b) 16 (result tt)
+    go : (a b : Bool) → cancel_reply (cancel_if (cond a true b) (Some r) (toggle_in r.request.kind) (toggle_out r.request.kind (stage_parity r.stage))).answer ≡ unless (a || b) 16 (result tt)
     go true b = refl
     go false true = refl
     go false false = refl

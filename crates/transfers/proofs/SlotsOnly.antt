@@ -1,10 +1,8 @@
 -- Begin and step store in packet memory only within 0x180 to 0x1FF. Assumes nothing.
-use Rattle.std.proofs.Common.{◌≡◌, ℕ, suc, ◌+◌, ◌≤◌, Bool, true, false, eqb, ltb, leb, List, [], ◌∷◌, length, take, drop, set, refl, ap, ◌∙◌, arith, length-take, drop-set-lt}
+use Rattle.std.proofs.Common.{◌≡◌, ℕ, suc, ◌+◌, ◌≤◌, Bool, true, false, eqb, ltb, leb, List, [], ◌∷◌, length, take, drop, set, refl, ap, ◌∙◌, arith, length-take, drop-set-lt, Err, None, Ok, Option, Result, Some}
 use lib.Seq.{sets, take-set-le}
 use Rattle.cutting.specs.declared.transfer_type.TransferType.{TransferType}
 use Rattle.cutting.specs.declared.transfer_type.TransferType.TheVariants.{FixedSize}
-use Rattle.cutting.specs.declared.packetiser.OptionArm.{OptionArm}
-use Rattle.cutting.specs.declared.packetiser.OptionArm.TheVariants.{Some, None}
 use Rattle.cutting.specs.declared.packetiser.OutCounters.{OutCounters}
 use Rattle.cutting.specs.declared.depacketiser.InDepacketiser.{InDepacketiser}
 use Rattle.cutting.specs.Counters.{out_start, out_next}
@@ -15,15 +13,9 @@ use Rattle.transfers.specs.declared.host_controller.TransferExtras.{TransferExtr
 use Rattle.transfers.specs.declared.wire.SetupPacket.{SetupPacket}
 use Rattle.transfers.specs.declared.wire.Direction.TheVariants.{In, Out}
 use Rattle.transfers.specs.declared.writes.Target.{Target}
-use Rattle.transfers.specs.declared.refusal.OptionRefusal.{OptionRefusal}
-use Rattle.transfers.specs.declared.refusal.OptionRefusal.TheVariants.{Some as refused, None as accepted}
 use Rattle.transfers.specs.declared.sample.Sample.{Sample}
-use Rattle.transfers.specs.declared.sample.Poll.{Poll}
-use Rattle.transfers.specs.declared.sample.Poll.TheVariants.{Pending, Ready}
 use Rattle.transfers.specs.declared.sample.Found.{Found}
 use Rattle.transfers.specs.declared.sample.Found.TheVariants.{Complete, Failed, Neither}
-use Rattle.transfers.specs.declared.driver.Transfer.{Transfer}
-use Rattle.transfers.specs.declared.driver.Transfer.TheVariants.{Idle, Busy}
 use Rattle.transfers.specs.declared.driver.Run.{Run}
 use Rattle.transfers.specs.declared.driver.Request.{Request}
 use Rattle.transfers.specs.declared.driver.Kind.{Kind}
@@ -42,6 +34,8 @@ use Rattle.transfers.specs.Step.{setup_done, setup_step, in_received, in_control
 use Rattle.transfers.specs.Calls.{step_if, may_step, step_lent, step_of, fields_refusal, begin_refusal, Beginning, begin_or, is_idle, bulk_request, begins_control, begin_control_of, begins_bulk_in, begin_bulk_in_of, begins_bulk_out, begin_bulk_out_of}
 use Rattle.transfers.proofs.Stores.{slot_inside}
 use Rattle.transfers.proofs.Steps.{rearm_memory, out_complete_memory}
+use Rattle.transfers.specs.declared.refusal.Refusal.{Refusal}
+use Rattle.cutting.specs.declared.packetiser.Arm.{Arm}
 
 pub sets_below : (vs : List ℕ) (k : ℕ) (l : List ℕ) (i : ℕ) → k ≤ i → take k (sets l i vs) ≡ take k l
 sets_below [] k l i h = refl
@@ -66,7 +60,7 @@ arm_slots : (w : ℕ) (c : OutCounters) (k : ℕ) (buf m : List ℕ) → SlotsOn
 unfolding out_arm
 arm_slots w c k buf m = may (may_arm w k c.slot)
   where
-    with_arm : (a : OptionArm) → (out_next c).arm ≡ a → SlotsOnly m (out_armed a (out_next c).rest k c.offset buf m).memory
+    with_arm : (a : Option Arm) → (out_next c).arm ≡ a → SlotsOnly m (out_armed a (out_next c).rest k c.offset buf m).memory
     with_arm None e = slots_same m
     with_arm (Some a) e =
         let n = length-take a.length (drop c.offset buf) in
@@ -151,9 +145,9 @@ stage_slots f x (in_stage st) w buf m =
 stage_slots f x (out_stage st) w buf m =
     keeping_slots st.status buf (out_step f x st w (lent st.status buf) m) m (out_slots f x st w (lent st.status buf) m)
 
-polls_slots : (p : Poll) (x : Request) (st : Stage) (w : ℕ) (buf m : List ℕ) → SlotsOnly m (polls p x st w buf m).memory
-polls_slots Pending x st w buf m = slots_same m
-polls_slots (Ready f) x st w buf m = stage_slots f x st w buf m
+polls_slots : (p : Option Found) (x : Request) (st : Stage) (w : ℕ) (buf m : List ℕ) → SlotsOnly m (polls p x st w buf m).memory
+polls_slots None x st w buf m = slots_same m
+polls_slots (Some f) x st w buf m = stage_slots f x st w buf m
 
 step_if_slots : (a b : Bool) (r : Run) (s : Sample) (buf m : List ℕ) → SlotsOnly m (step_if a b r s buf m).memory
 unfolding acts
@@ -161,33 +155,33 @@ step_if_slots false b r s buf m = slots_same m
 step_if_slots true false r s buf m = slots_same m
 step_if_slots true true r s buf m = polls_slots (classify s.status s.intr) r.request r.stage s.buffers buf m
 
-step_lent_slots : (l b : Bool) (t : Transfer) (s : Sample) (buf m : List ℕ) → SlotsOnly m (step_lent l b t s buf m).memory
+step_lent_slots : (l b : Bool) (t : Option Run) (s : Sample) (buf m : List ℕ) → SlotsOnly m (step_lent l b t s buf m).memory
 step_lent_slots false b t s buf m = slots_same m
-step_lent_slots true b Idle s buf m = slots_same m
-step_lent_slots true b (Busy r) s buf m = step_if_slots (may_step b r) (eqb (length buf) r.request.length) r s buf m
+step_lent_slots true b None s buf m = slots_same m
+step_lent_slots true b (Some r) s buf m = step_if_slots (may_step b r) (eqb (length buf) r.request.length) r s buf m
 
-pub step_slots : (b : Bool) (t : Transfer) (s : Sample) (buf m log : List ℕ) → SlotsOnly m (step_of b t s buf m log).memory
+pub step_slots : (b : Bool) (t : Option Run) (s : Sample) (buf m log : List ℕ) → SlotsOnly m (step_of b t s buf m log).memory
 unfolding step_of
 step_slots b t s buf m log = step_lent_slots (lent_fits m log) b t s buf m
 
 -- ---- begins
 
-begin_or_slots : (r : OptionRefusal) (t : Transfer) (m : List ℕ) (b : Beginning) → SlotsOnly m b.memory → SlotsOnly m (begin_or r t m b).memory
-begin_or_slots (refused e) t m b p = slots_same m
-begin_or_slots accepted t m b p = p
+begin_or_slots : (r : Result (Unit {0}) Refusal) (t : Option Run) (m : List ℕ) (b : Beginning) → SlotsOnly m b.memory → SlotsOnly m (begin_or r t m b).memory
+begin_or_slots (Err e) t m b p = slots_same m
+begin_or_slots (Ok tt) t m b p = p
 
-pub begin_control_slots : (t : Transfer) (a : ℕ) (x : TransferExtras) (p : ℕ) (s : SetupPacket) (ph : DataPhase) (buf m log : List ℕ) → SlotsOnly m (begin_control_of t a x p s ph buf m log).memory
+pub begin_control_slots : (t : Option Run) (a : ℕ) (x : TransferExtras) (p : ℕ) (s : SetupPacket) (ph : DataPhase) (buf m log : List ℕ) → SlotsOnly m (begin_control_of t a x p s ph buf m log).memory
 unfolding begin_control_of
 begin_control_slots t a x p s ph buf m log =
     begin_or_slots (begin_refusal (lent_fits m log) (is_idle t) (fields_refusal (address_good a) true (size_good p) true)) t m (begins_control a x p s ph (length buf) m) (slots_same m)
 
-pub begin_bulk_in_slots : (t : Transfer) (a e p : ℕ) (k : TransferType) (b : Bool) (buf m log : List ℕ) → SlotsOnly m (begin_bulk_in_of t a e p k b buf m log).memory
+pub begin_bulk_in_slots : (t : Option Run) (a e p : ℕ) (k : TransferType) (b : Bool) (buf m log : List ℕ) → SlotsOnly m (begin_bulk_in_of t a e p k b buf m log).memory
 unfolding begin_bulk_in_of
 begin_bulk_in_slots t a e p k b buf m log =
     begin_or_slots (begin_refusal (lent_fits m log) (is_idle t) (fields_refusal (address_good a) (endpoint_good e) (size_good p) (leb (length buf) 0xFFFF))) t m
     (begins_bulk_in (bulk_request In a e p b (length buf)) k m) (slots_same m)
 
-pub begin_bulk_out_slots : (t : Transfer) (a e p : ℕ) (k : TransferType) (b : Bool) (buf m log : List ℕ) → SlotsOnly m (begin_bulk_out_of t a e p k b buf m log).memory
+pub begin_bulk_out_slots : (t : Option Run) (a e p : ℕ) (k : TransferType) (b : Bool) (buf m log : List ℕ) → SlotsOnly m (begin_bulk_out_of t a e p k b buf m log).memory
 unfolding begin_bulk_out_of
 begin_bulk_out_slots t a e p k b buf m log =
     let x = bulk_request Out a e p b (length buf) in

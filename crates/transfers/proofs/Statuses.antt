@@ -6,12 +6,6 @@ use Rattle.transfers.specs.declared.host_controller.DeviceStatus.{DeviceStatus}
 use Rattle.transfers.specs.declared.host_controller.DeviceStatus.TheVariants.{Present, Absent}
 use Rattle.transfers.specs.Detect.{status_at, same_speed, same_status}
 
--- "2 and 3 full"
-pub fast : (n : ℕ) → (n ≡ 0 → ⊥) → (n ≡ 1 → ⊥) → status_at n ≡ Present Full12
-fast zero a b = absurd (a refl)
-fast (suc zero) a b = absurd (b refl)
-fast (suc (suc n)) a b = refl
-
 -- The test says whether two statuses are the same.
 same_speed_lem : (a b : UsbSpeed) → same_speed a b ≡ true → a ≡ b
 same_speed_lem Low1_5 Low1_5 e = refl

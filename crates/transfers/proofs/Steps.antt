@@ -1,9 +1,11 @@
 -- Laws of the stages' steps. Assumes nothing.
-use Rattle.std.proofs.Common.{◌≡◌, ℕ, Bool, true, false, ltb, List, refl}
+use Rattle.std.proofs.Common.{◌≡◌, ℕ, Bool, true, false, ltb, List, sym, refl, true≢false}
 use Rattle.cutting.specs.declared.depacketiser.InDepacketiser.{InDepacketiser}
 use Rattle.transfers.specs.declared.driver.Request.{Request}
 use Rattle.transfers.specs.declared.driver.Kind.{Kind}
 use Rattle.transfers.specs.declared.driver.Kind.TheVariants.{Control as control, Bulk as bulk}
+use Rattle.transfers.specs.declared.driver.Stage.{Stage}
+use Rattle.transfers.specs.declared.driver.Stage.TheVariants.{Setup as setup_stage, In as in_stage, Out as out_stage}
 use Rattle.transfers.specs.declared.driver.InStage.{InStage}
 use Rattle.transfers.specs.declared.driver.OutStage.{OutStage}
 use Rattle.transfers.specs.declared.host_controller.DataPhase.{DataPhase}
@@ -11,7 +13,8 @@ use Rattle.transfers.specs.declared.host_controller.DataPhase.TheVariants.{In as
 use Rattle.transfers.specs.declared.sample.Found.{Found}
 use Rattle.transfers.specs.declared.sample.Found.TheVariants.{Complete, Failed, Neither}
 use Rattle.transfers.specs.State.{control_of}
-use Rattle.transfers.specs.Step.{in_control_done, in_done, in_rearm, out_control_done, out_done, out_retire_two, out_complete, out_move, out_step, setup_done, setup_step, lent, keeping}
+use Rattle.transfers.specs.Step.{in_control_done, in_done, in_rearm, out_control_done, out_done, out_retire_two, out_complete, out_move, out_step, setup_done, setup_step, in_step, lent, keeping, stage_step}
+use Rattle.transfers.specs.Ready.{InIsStatus}
 
 -- The buffer, once it is filled, stays as it is.
 in_control_keeps : (s : Bool) (ph : DataPhase) (x : Request) (n : ℕ) (m buf : List ℕ) → (in_control_done s ph x n m buf).buffer ≡ buf
@@ -76,3 +79,13 @@ unfolding setup_step
 setup_keeps Complete x buf m = let c = control_of x.kind in setup_done_keeps c.phase (ltb x.length c.wLength) x c.wLength buf m
 setup_keeps (Failed e) x buf m = refl
 setup_keeps Neither x buf m = refl
+
+in_keeps : (s : Bool) (f : Found) (x : Request) (st : InStage) (w : ℕ) (buf m : List ℕ) → s ≡ true → (keeping s buf (in_step f x st w (lent s buf) m)).buffer ≡ buf
+in_keeps true f x st w buf m e = refl
+in_keeps false f x st w buf m e = absurd (true≢false (sym e))
+
+-- Where an IN stage is a status stage, the buffer stays.
+pub stage_keeps : (f : Found) (x : Request) (st : Stage) (w : ℕ) (buf m : List ℕ) → InIsStatus st → (stage_step f x st w buf m).buffer ≡ buf
+stage_keeps f x setup_stage w buf m e = setup_keeps f x buf m
+stage_keeps f x (in_stage st) w buf m e = in_keeps st.status f x st w buf m e
+stage_keeps f x (out_stage st) w buf m e = send_keeps st.status f x st w buf m

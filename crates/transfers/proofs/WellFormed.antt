@@ -1,5 +1,5 @@
 -- From a state that the calls leave, begin, step and cancel leave such a state again: among others, never more than two in flight. Assumes nothing.
-use Rattle.std.proofs.Common.{◌≡◌, ℕ, ◌+◌, ◌≤◌, Bool, true, false, cond, ◌&&◌, eqb, ltb, leb, List, [], length, sym, refl, ap, ◌∙◌, arith, ltb-false, le-leb, leb-true}
+use Rattle.std.proofs.Common.{◌≡◌, ℕ, ◌+◌, ◌≤◌, Bool, true, false, cond, ◌&&◌, eqb, ltb, leb, List, [], length, sym, refl, ap, ◌∙◌, arith, ltb-false, le-leb, leb-true, Err, None, Ok, Option, Result, Some}
 use Rattle.cutting.specs.declared.transfer_type.TransferType.{TransferType}
 use Rattle.cutting.specs.declared.transfer_type.TransferType.TheVariants.{FixedSize}
 use Rattle.cutting.specs.declared.depacketiser.InDepacketiser.{InDepacketiser}
@@ -10,15 +10,9 @@ use Rattle.transfers.specs.declared.host_controller.TransferExtras.{TransferExtr
 use Rattle.transfers.specs.declared.wire.SetupPacket.{SetupPacket}
 use Rattle.transfers.specs.declared.wire.Direction.TheVariants.{In, Out}
 use Rattle.transfers.specs.declared.writes.Target.{Target}
-use Rattle.transfers.specs.declared.refusal.OptionRefusal.{OptionRefusal}
-use Rattle.transfers.specs.declared.refusal.OptionRefusal.TheVariants.{Some as refused, None as accepted}
 use Rattle.transfers.specs.declared.sample.Sample.{Sample}
-use Rattle.transfers.specs.declared.sample.Poll.{Poll}
-use Rattle.transfers.specs.declared.sample.Poll.TheVariants.{Pending, Ready}
 use Rattle.transfers.specs.declared.sample.Found.{Found}
 use Rattle.transfers.specs.declared.sample.Found.TheVariants.{Complete, Failed, Neither}
-use Rattle.transfers.specs.declared.driver.Transfer.{Transfer}
-use Rattle.transfers.specs.declared.driver.Transfer.TheVariants.{Idle, Busy}
 use Rattle.transfers.specs.declared.driver.Run.{Run}
 use Rattle.transfers.specs.declared.driver.Request.{Request}
 use Rattle.transfers.specs.declared.driver.Kind.{Kind}
@@ -39,6 +33,7 @@ use Rattle.transfers.specs.Calls.{may_step, either_serves, well_formed, step_if,
 use Rattle.transfers.proofs.Readiness.{both, may_parts}
 use Rattle.transfers.proofs.Beginnings.{none_fields}
 use Rattle.transfers.proofs.Armings.{in_two_flight, out_two_flight, out_two_sum, in_retires, out_retires}
+use Rattle.transfers.specs.declared.refusal.Refusal.{Refusal}
 
 no : {A : Type 0} → false ≡ true → A
 no e = absurd (let z : ◌≡◌ {A = ℕ} 0 1 = cc in omega arith)
@@ -56,7 +51,7 @@ good_sound : {x : Request} {st : Stage} → Good x st → sound x st ≡ true
 unfolding sound
 good_sound g = and g.request g.stage
 
-pub good_well : (x : Request) (st : Stage) → Good x st → well_formed (Busy (record { request = x; stage = st })) ≡ true
+pub good_well : (x : Request) (st : Stage) → Good x st → well_formed (Some (record { request = x; stage = st })) ≡ true
 unfolding served
 good_well x st g = go (fills x.kind) (stage_fits x.kind st) (sound x st) g.fit (good_sound g)
   where
@@ -248,63 +243,63 @@ stage_well f x setup_stage w buf m g = setup_well f x buf m g
 stage_well f x (in_stage st) w buf m g = keeping_well st.status buf (in_step f x st w (lent st.status buf) m) (in_well f x st w (lent st.status buf) m g)
 stage_well f x (out_stage st) w buf m g = keeping_well st.status buf (out_step f x st w (lent st.status buf) m) (out_well f x st w (lent st.status buf) m g)
 
-polls_well : (p : Poll) (x : Request) (st : Stage) (w : ℕ) (buf m : List ℕ) → Good x st → Well (polls p x st w buf m)
-polls_well Pending x st w buf m g = good_well x st g
-polls_well (Ready f) x st w buf m g = stage_well f x st w buf m g
+polls_well : (p : Option Found) (x : Request) (st : Stage) (w : ℕ) (buf m : List ℕ) → Good x st → Well (polls p x st w buf m)
+polls_well None x st w buf m g = good_well x st g
+polls_well (Some f) x st w buf m g = stage_well f x st w buf m g
 
-step_if_well : (a b fill : Bool) (r : Run) (s : Sample) (buf m : List ℕ) → may_step fill r ≡ a → well_formed (Busy r) ≡ true → Well (step_if a b r s buf m)
+step_if_well : (a b fill : Bool) (r : Run) (s : Sample) (buf m : List ℕ) → may_step fill r ≡ a → well_formed (Some r) ≡ true → Well (step_if a b r s buf m)
 unfolding acts
 step_if_well false b fill r s buf m e h = h
 step_if_well true false fill r s buf m e h = h
 step_if_well true true fill r s buf m e h = polls_well (classify s.status s.intr) r.request r.stage s.buffers buf m (may_good fill r e)
 
-step_lent_well : (l b : Bool) (t : Transfer) (s : Sample) (buf m : List ℕ) → well_formed t ≡ true → Well (step_lent l b t s buf m)
+step_lent_well : (l b : Bool) (t : Option Run) (s : Sample) (buf m : List ℕ) → well_formed t ≡ true → Well (step_lent l b t s buf m)
 step_lent_well false b t s buf m h = h
-step_lent_well true b Idle s buf m h = h
-step_lent_well true b (Busy r) s buf m h = step_if_well (may_step b r) (eqb (length buf) r.request.length) b r s buf m refl h
+step_lent_well true b None s buf m h = h
+step_lent_well true b (Some r) s buf m h = step_if_well (may_step b r) (eqb (length buf) r.request.length) b r s buf m refl h
 
-pub step_well : (b : Bool) (t : Transfer) (s : Sample) (buf m log : List ℕ) → well_formed t ≡ true → well_formed (step_of b t s buf m log).next ≡ true
+pub step_well : (b : Bool) (t : Option Run) (s : Sample) (buf m log : List ℕ) → well_formed t ≡ true → well_formed (step_of b t s buf m log).next ≡ true
 unfolding step_of
 step_well b t s buf m log h = step_lent_well (lent_fits m log) b t s buf m h
 
-cancel_if_well : (b : Bool) (t : Transfer) (c v : Bool) → well_formed t ≡ true → well_formed (cancel_if b t c v).next ≡ true
+cancel_if_well : (b : Bool) (t : Option Run) (c v : Bool) → well_formed t ≡ true → well_formed (cancel_if b t c v).next ≡ true
 cancel_if_well true t c v h = refl
 cancel_if_well false t c v h = h
 
-pub cancel_well : (t : Transfer) → well_formed t ≡ true → well_formed (cancel_of t).next ≡ true
+pub cancel_well : (t : Option Run) → well_formed t ≡ true → well_formed (cancel_of t).next ≡ true
 unfolding cancel_of
-cancel_well Idle h = refl
-cancel_well (Busy r) h = cancel_if_well (either_serves r) (Busy r) _ _ h
+cancel_well None h = refl
+cancel_well (Some r) h = cancel_if_well (either_serves r) (Some r) _ _ h
 
-begin_or_well : (r : OptionRefusal) (t : Transfer) (m : List ℕ) (b : Beginning) → well_formed t ≡ true → (r ≡ accepted → well_formed b.next ≡ true) → well_formed (begin_or r t m b).next ≡ true
-begin_or_well (refused e) t m b h f = h
-begin_or_well accepted t m b h f = f refl
+begin_or_well : (r : Result (Unit {0}) Refusal) (t : Option Run) (m : List ℕ) (b : Beginning) → well_formed t ≡ true → (r ≡ Ok tt → well_formed b.next ≡ true) → well_formed (begin_or r t m b).next ≡ true
+begin_or_well (Err e) t m b h f = h
+begin_or_well (Ok tt) t m b h f = f refl
 
-pub begin_control_well : (t : Transfer) (a : ℕ) (x : TransferExtras) (p : ℕ) (s : SetupPacket) (ph : DataPhase) (buf m log : List ℕ) → well_formed t ≡ true → well_formed (begin_control_of t a x p s ph buf m log).next ≡ true
+pub begin_control_well : (t : Option Run) (a : ℕ) (x : TransferExtras) (p : ℕ) (s : SetupPacket) (ph : DataPhase) (buf m log : List ℕ) → well_formed t ≡ true → well_formed (begin_control_of t a x p s ph buf m log).next ≡ true
 unfolding begin_control_of
 begin_control_well t a x p s ph buf m log h =
     begin_or_well (begin_refusal (lent_fits m log) (is_idle t) (fields_refusal (address_good a) true (size_good p) true)) t m (begins_control a x p s ph (length buf) m) h
-    (λ (e : begin_refusal (lent_fits m log) (is_idle t) (fields_refusal (address_good a) true (size_good p) true) ≡ accepted).
+    (λ (e : begin_refusal (lent_fits m log) (is_idle t) (fields_refusal (address_good a) true (size_good p) true) ≡ Ok tt).
     let f = none_fields (lent_fits m log) (is_idle t) (address_good a) true (size_good p) true e in
     good_well (record { address = a; size = p; kind = control (record { phase = ph; wLength = s.wLength }); length = length buf }) setup_stage
     (record { fit = refl; request = and f.0 (and f.2 refl); stage = refl }))
 
-pub begin_bulk_in_well : (t : Transfer) (a e p : ℕ) (k : TransferType) (b : Bool) (buf m log : List ℕ) → well_formed t ≡ true → well_formed (begin_bulk_in_of t a e p k b buf m log).next ≡ true
+pub begin_bulk_in_well : (t : Option Run) (a e p : ℕ) (k : TransferType) (b : Bool) (buf m log : List ℕ) → well_formed t ≡ true → well_formed (begin_bulk_in_of t a e p k b buf m log).next ≡ true
 unfolding begin_bulk_in_of
 begin_bulk_in_well t a e p k b buf m log h =
     let x = bulk_request In a e p b (length buf) in
     begin_or_well (begin_refusal (lent_fits m log) (is_idle t) (fields_refusal (address_good a) (endpoint_good e) (size_good p) (leb (length buf) 0xFFFF))) t m (begins_bulk_in x k m) h
-    (λ (q : begin_refusal (lent_fits m log) (is_idle t) (fields_refusal (address_good a) (endpoint_good e) (size_good p) (leb (length buf) 0xFFFF)) ≡ accepted).
+    (λ (q : begin_refusal (lent_fits m log) (is_idle t) (fields_refusal (address_good a) (endpoint_good e) (size_good p) (leb (length buf) 0xFFFF)) ≡ Ok tt).
     let f = none_fields (lent_fits m log) (is_idle t) (address_good a) (endpoint_good e) (size_good p) (leb (length buf) 0xFFFF) q in
     good_well x (in_stage (start_in (target_of x) k false (length buf)).stage)
     (start_in_good x (target_of x) k false (length buf) (and f.0 (and f.2 f.1)) refl refl (omega arith)))
 
-pub begin_bulk_out_well : (t : Transfer) (a e p : ℕ) (k : TransferType) (b : Bool) (buf m log : List ℕ) → well_formed t ≡ true → well_formed (begin_bulk_out_of t a e p k b buf m log).next ≡ true
+pub begin_bulk_out_well : (t : Option Run) (a e p : ℕ) (k : TransferType) (b : Bool) (buf m log : List ℕ) → well_formed t ≡ true → well_formed (begin_bulk_out_of t a e p k b buf m log).next ≡ true
 unfolding begin_bulk_out_of
 begin_bulk_out_well t a e p k b buf m log h =
     let x = bulk_request Out a e p b (length buf) in
     begin_or_well (begin_refusal (lent_fits m log) (is_idle t) (fields_refusal (address_good a) (endpoint_good e) (size_good p) (leb (length buf) 0xFFFF))) t m (begins_bulk_out x e k buf m) h
-    (λ (q : begin_refusal (lent_fits m log) (is_idle t) (fields_refusal (address_good a) (endpoint_good e) (size_good p) (leb (length buf) 0xFFFF)) ≡ accepted).
+    (λ (q : begin_refusal (lent_fits m log) (is_idle t) (fields_refusal (address_good a) (endpoint_good e) (size_good p) (leb (length buf) 0xFFFF)) ≡ Ok tt).
     let f = none_fields (lent_fits m log) (is_idle t) (address_good a) (endpoint_good e) (size_good p) (leb (length buf) 0xFFFF) q in
     good_well x (out_stage (start_out (target_of x) k false 0 (length buf) buf m).stage)
     (start_out_good x (target_of x) k false 0 (length buf) buf m (and f.0 (and f.2 f.1)) refl refl (omega arith)))

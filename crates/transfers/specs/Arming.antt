@@ -1,8 +1,6 @@
 -- Arming (rp2040.rs, `prepare`): "At most two are in flight"; a slot is armed only where it isn't available.
-use Rattle.std.specs.Prelude.{ℕ, ◌+◌, Bool, true, false, not, ◌&&◌, List, [], ◌++◌, take, drop, nat_lt}
+use Rattle.std.specs.Prelude.{ℕ, ◌+◌, Bool, true, false, not, ◌&&◌, List, [], ◌++◌, take, drop, nat_lt, None, Option, Some}
 use Rattle.std.proofs.lemmas.List.Edits.{sets}
-use Rattle.cutting.specs.declared.packetiser.OptionArm.{OptionArm}
-use Rattle.cutting.specs.declared.packetiser.OptionArm.TheVariants.{Some, None}
 use Rattle.cutting.specs.declared.packetiser.InPacketiser.{InPacketiser}
 use Rattle.cutting.specs.declared.packetiser.OutCounters.{OutCounters}
 use Rattle.cutting.specs.Counters.{in_next, out_next}
@@ -10,6 +8,7 @@ use Rattle.transfers.specs.Memory.{slot_address}
 use Rattle.transfers.specs.Sample.{available}
 use Rattle.transfers.specs.Log.{Write}
 use Rattle.transfers.specs.Writes.{arm_writes}
+use Rattle.cutting.specs.declared.packetiser.Arm.{Arm}
 
 -- Whether a slot may be armed, with k in flight and EP_BUFFER_CONTROL as sampled.
 abbrev pub may_arm : ℕ → ℕ → Bool → Bool
@@ -24,7 +23,7 @@ pub record InArming : Type 0 where
   pub writes : List Write
 
 -- What `next_packet` answered is armed.
-abbrev pub in_armed : OptionArm → InPacketiser → ℕ → InArming
+abbrev pub in_armed : Option Arm → InPacketiser → ℕ → InArming
 in_armed None c k = record { packets = c; inflight = k; writes = [] }
 in_armed (Some a) c k = record { packets = c; inflight = k + 1; writes = arm_writes false a }
 
@@ -52,14 +51,14 @@ pub record OutArming : Type 0 where
   pub inflight : ℕ
   pub writes : List Write
   pub memory : List ℕ
-  pub arm : OptionArm
+  pub arm : Option Arm
 
 -- Nothing is armed, and all stays.
 abbrev pub out_kept : OutCounters → ℕ → List ℕ → OutArming
 out_kept c k m = record { packets = c; inflight = k; writes = []; memory = m; arm = None }
 
 -- "Sending copies the part of the caller's buffer from the offset on into a slot."
-abbrev pub out_armed : OptionArm → OutCounters → ℕ → ℕ → List ℕ → List ℕ → OutArming
+abbrev pub out_armed : Option Arm → OutCounters → ℕ → ℕ → List ℕ → List ℕ → OutArming
 out_armed None c k off buf m = out_kept c k m
 out_armed (Some a) c k off buf m =
     record { packets = c; inflight = k + 1; writes = arm_writes true a; memory = sets m (slot_address a.slot) (take a.length (drop off buf)); arm = Some a }
@@ -79,8 +78,8 @@ pub record OutArmings : Type 0 where
   pub inflight : ℕ
   pub writes : List Write
   pub memory : List ℕ
-  pub first : OptionArm
-  pub second : OptionArm
+  pub first : Option Arm
+  pub second : Option Arm
 
 -- "arm up to two"
 unfoldable pub out_arm_two : ℕ → OutCounters → ℕ → List ℕ → List ℕ → OutArmings

@@ -1,5 +1,5 @@
 -- The calls on the control pipe: begin, step and cancel, with document 01's checks in its order.
-use Rattle.std.specs.Prelude.{ℕ, Bool, true, false, cond, ◌&&◌, List, [], ◌++◌, length, ◌==◌, nat_le}
+use Rattle.std.specs.Prelude.{ℕ, Bool, true, false, cond, ◌&&◌, List, [], ◌++◌, length, ◌==◌, nat_le, Err, None, Ok, Option, Result, Some}
 use Rattle.cutting.specs.declared.transfer_type.TransferType.{TransferType}
 use Rattle.transfers.specs.declared.host_controller.UsbError.TheVariants.{AllPipesInUse, NoSuchEndpoint}
 use Rattle.transfers.specs.declared.host_controller.DataPhase.{DataPhase}
@@ -9,19 +9,8 @@ use Rattle.transfers.specs.declared.wire.Direction.{Direction}
 use Rattle.transfers.specs.declared.wire.Direction.TheVariants.{In, Out}
 use Rattle.transfers.specs.declared.refusal.Refusal.{Refusal}
 use Rattle.transfers.specs.declared.refusal.Refusal.TheVariants.{Usb, Address, PacketSize, BufferSize, LentMemory, State}
-use Rattle.transfers.specs.declared.refusal.OptionRefusal.{OptionRefusal}
-use Rattle.transfers.specs.declared.refusal.OptionRefusal.TheVariants.{Some, None}
-use Rattle.transfers.specs.declared.answers.BeginAnswer.{BeginAnswer}
-use Rattle.transfers.specs.declared.answers.BeginAnswer.TheVariants.{Begun as begun, Refused as refused_begin}
-use Rattle.transfers.specs.declared.answers.StepAnswer.TheVariants.{Refused}
-use Rattle.transfers.specs.declared.answers.CancelAnswer.{CancelAnswer}
-use Rattle.transfers.specs.declared.answers.CancelAnswer.TheVariants.{Cancelled, Refused as refused_cancel}
 use Rattle.transfers.specs.declared.answers.Armed.{Armed}
-use Rattle.transfers.specs.declared.answers.OptionSetup.TheVariants.{Some as some_setup}
-use Rattle.transfers.specs.declared.answers.OptionOut.TheVariants.{None as no_out}
 use Rattle.transfers.specs.declared.sample.Sample.{Sample}
-use Rattle.transfers.specs.declared.driver.Transfer.{Transfer}
-use Rattle.transfers.specs.declared.driver.Transfer.TheVariants.{Idle, Busy}
 use Rattle.transfers.specs.declared.driver.Run.{Run}
 use Rattle.transfers.specs.declared.driver.Request.{Request}
 use Rattle.transfers.specs.declared.driver.Kind.TheVariants.{Control as control, Bulk as bulk}
@@ -38,18 +27,18 @@ use Rattle.transfers.specs.Step.{acts}
 -- ---- step: `filling` is the call that lends a buffer to fill (`step_in`), else the one that lends bytes to send (`step_out`)
 
 -- The toggle that a transfer under way came with.
-abbrev pub held_toggle : Transfer → Bool
-held_toggle Idle = false
-held_toggle (Busy r) = toggle_in r.request.kind
+abbrev pub held_toggle : Option Run → Bool
+held_toggle None = false
+held_toggle (Some r) = toggle_in r.request.kind
 
 -- "Every other number leaves state, packet memory, log, record and buffer untouched."
-abbrev pub refuses : Transfer → Refusal → List ℕ → List ℕ → Outcome
-refuses t e m buf = record { next = t; answer = Refused e; toggle = held_toggle t; moved = held_toggle t; armed = nothing_armed; writes = []; memory = m; buffer = buf }
+abbrev pub refuses : Option Run → Refusal → List ℕ → List ℕ → Outcome
+refuses t e m buf = record { next = t; answer = Err e; toggle = held_toggle t; moved = held_toggle t; armed = nothing_armed; writes = []; memory = m; buffer = buf }
 
 -- "16 ..; then, step only, 15 buffer length not that of begin"
 abbrev pub step_if : Bool → Bool → Run → Sample → List ℕ → List ℕ → Outcome
-step_if false fits r s buf m = refuses (Busy r) State m buf
-step_if true false r s buf m = refuses (Busy r) LentMemory m buf
+step_if false fits r s buf m = refuses (Some r) State m buf
+step_if true false r s buf m = refuses (Some r) LentMemory m buf
 step_if true true r s buf m = acts r.request r.stage s buf m
 
 -- "16 nothing under way that this call serves, or a state with .."
@@ -57,28 +46,28 @@ abbrev pub may_step : Bool → Run → Bool
 may_step filling r = served filling r.request.kind r.stage && sound r.request r.stage
 
 -- "15 packet memory not 4,096 bytes, or log below 192 words", then 16.
-abbrev pub step_lent : Bool → Bool → Transfer → Sample → List ℕ → List ℕ → Outcome
+abbrev pub step_lent : Bool → Bool → Option Run → Sample → List ℕ → List ℕ → Outcome
 step_lent false filling t s buf m = refuses t LentMemory m buf
-step_lent true filling Idle s buf m = refuses Idle State m buf
-step_lent true filling (Busy r) s buf m = step_if (may_step filling r) (length buf == r.request.length) r s buf m
+step_lent true filling None s buf m = refuses None State m buf
+step_lent true filling (Some r) s buf m = step_if (may_step filling r) (length buf == r.request.length) r s buf m
 
 -- A step, on any state and whatever is lent.
-unfoldable pub step_of : Bool → Transfer → Sample → List ℕ → List ℕ → List ℕ → Outcome
+unfoldable pub step_of : Bool → Option Run → Sample → List ℕ → List ℕ → List ℕ → Outcome
 step_of filling t s buf m log = step_lent (lent_fits m log) filling t s buf m
 
 -- ---- cancel: "Dropping the future becomes a cancel that frees the control pipe and writes no register."
 
 -- What a cancel does: the next state, the answer, and the toggle that desk rule 1 hands out and the one that rule 2 does.
 pub record Cancelling : Type 0 where
-  pub next : Transfer
-  pub answer : CancelAnswer
+  pub next : Option Run
+  pub answer : Result (Unit {0}) Refusal
   pub toggle : Bool
   pub moved : Bool
 
 -- 16 where no step serves the state, which then stays.
-abbrev pub cancel_if : Bool → Transfer → Bool → Bool → Cancelling
-cancel_if false t b v = record { next = t; answer = refused_cancel State; toggle = b; moved = b }
-cancel_if true t b v = record { next = Idle; answer = Cancelled; toggle = b; moved = v }
+abbrev pub cancel_if : Bool → Option Run → Bool → Bool → Cancelling
+cancel_if false t b v = record { next = t; answer = Err State; toggle = b; moved = b }
+cancel_if true t b v = record { next = None; answer = Ok tt; toggle = b; moved = v }
 
 -- The parity of the packets that a stage has retired.
 abbrev pub stage_parity : Stage → Bool
@@ -91,65 +80,65 @@ abbrev pub either_serves : Run → Bool
 either_serves r = cond (may_step true r) true (may_step false r)
 
 -- A cancel, on any state.
-unfoldable pub cancel_of : Transfer → Cancelling
-cancel_of Idle = cancel_if false Idle false false
-cancel_of (Busy r) = cancel_if (either_serves r) (Busy r) (toggle_in r.request.kind) (toggle_out r.request.kind (stage_parity r.stage))
+unfoldable pub cancel_of : Option Run → Cancelling
+cancel_of None = cancel_if false None false false
+cancel_of (Some r) = cancel_if (either_serves r) (Some r) (toggle_in r.request.kind) (toggle_out r.request.kind (stage_parity r.stage))
 
 -- A state that the calls leave: nothing under way, or a transfer that one of them serves.
-abbrev pub well_formed : Transfer → Bool
-well_formed Idle = true
-well_formed (Busy r) = either_serves r
+abbrev pub well_formed : Option Run → Bool
+well_formed None = true
+well_formed (Some r) = either_serves r
 
 -- ---- begin
 
 -- What a begin does: the next state, the answer, what was armed, the writes, and packet memory.
 pub record Beginning : Type 0 where
-  pub next : Transfer
-  pub answer : BeginAnswer
+  pub next : Option Run
+  pub answer : Result (Unit {0}) Refusal
   pub armed : Armed
   pub writes : List Write
   pub memory : List ℕ
 
 -- "Every other number leaves state, packet memory, log, record and buffer untouched."
-abbrev pub refuses_begin : Transfer → Refusal → List ℕ → Beginning
-refuses_begin t e m = record { next = t; answer = refused_begin e; armed = nothing_armed; writes = []; memory = m }
+abbrev pub refuses_begin : Option Run → Refusal → List ℕ → Beginning
+refuses_begin t e m = record { next = t; answer = Err e; armed = nothing_armed; writes = []; memory = m }
 
 -- "12 address above 127; 11 bulk endpoint not 1 to 15; 13 packet size not 1 to 64; 14 bulk buffer above 65,535 bytes"
-abbrev pub fields_refusal : Bool → Bool → Bool → Bool → OptionRefusal
-fields_refusal false e p n = Some Address
-fields_refusal true false p n = Some (Usb NoSuchEndpoint)
-fields_refusal true true false n = Some PacketSize
-fields_refusal true true true false = Some BufferSize
-fields_refusal true true true true = None
+abbrev pub fields_refusal : Bool → Bool → Bool → Bool → Result (Unit {0}) Refusal
+fields_refusal false e p n = Err Address
+fields_refusal true false p n = Err (Usb NoSuchEndpoint)
+fields_refusal true true false n = Err PacketSize
+fields_refusal true true true false = Err BufferSize
+fields_refusal true true true true = Ok tt
 
 -- "15 ..; 8 a transfer is under way", then the fields.
-abbrev pub begin_refusal : Bool → Bool → OptionRefusal → OptionRefusal
-begin_refusal false idle r = Some LentMemory
-begin_refusal true false r = Some (Usb AllPipesInUse)
+abbrev pub begin_refusal : Bool → Bool → Result (Unit {0}) Refusal → Result (Unit {0}) Refusal
+begin_refusal false idle r = Err LentMemory
+begin_refusal true false r = Err (Usb AllPipesInUse)
 begin_refusal true true r = r
 
 -- Refused, or begun.
-abbrev pub begin_or : OptionRefusal → Transfer → List ℕ → Beginning → Beginning
-begin_or (Some e) t m b = refuses_begin t e m
-begin_or None t m b = b
+abbrev pub begin_or : Result (Unit {0}) Refusal → Option Run → List ℕ → Beginning → Beginning
+begin_or (Err e) t m b = refuses_begin t e m
+begin_or (Ok tt) t m b = b
 
 -- No transfer is under way.
-abbrev pub is_idle : Transfer → Bool
-is_idle Idle = true
-is_idle (Busy r) = false
+abbrev pub is_idle : Option Run → Bool
+is_idle None = true
+is_idle (Some r) = false
 
 -- SETUP is sent.
 abbrev pub begins_control : ℕ → TransferExtras → ℕ → SetupPacket → DataPhase → ℕ → List ℕ → Beginning
 begins_control a x p s ph n m = record {
-  next = Busy (record { request = record { address = a; size = p; kind = control (record { phase = ph; wLength = s.wLength }); length = n }; stage = setup_stage });
-  answer = begun;
-  armed = record { setup = some_setup (record { address = a; setup = s }); first = no_out; second = no_out };
+  next = Some (record { request = record { address = a; size = p; kind = control (record { phase = ph; wLength = s.wLength }); length = n }; stage = setup_stage });
+  answer = Ok tt;
+  armed = record { setup = Some (record { address = a; setup = s }); first = None; second = None };
   writes = setup_words s ++ setup_start a x;
   memory = m;
 }
 
 -- A control begin: it has no endpoint and no limit of its buffer (11, 14).
-unfoldable pub begin_control_of : Transfer → ℕ → TransferExtras → ℕ → SetupPacket → DataPhase → List ℕ → List ℕ → List ℕ → Beginning
+unfoldable pub begin_control_of : Option Run → ℕ → TransferExtras → ℕ → SetupPacket → DataPhase → List ℕ → List ℕ → List ℕ → Beginning
 begin_control_of t a x p s ph buf m log =
     begin_or (begin_refusal (lent_fits m log) (is_idle t) (fields_refusal (address_good a) true (size_good p) true)) t m (begins_control a x p s ph (length buf) m)
 
@@ -161,20 +150,20 @@ bulk_request d a e p t n = record { address = a; size = p; kind = bulk (record {
 abbrev pub begins_bulk_in : Request → TransferType → List ℕ → Beginning
 begins_bulk_in x k m =
     let s = start_in (target_of x) k false x.length in
-    record { next = Busy (record { request = x; stage = in_stage s.stage }); answer = begun; armed = nothing_armed; writes = s.writes; memory = m }
+    record { next = Some (record { request = x; stage = in_stage s.stage }); answer = Ok tt; armed = nothing_armed; writes = s.writes; memory = m }
 
 -- The same OUT: what was armed is answered.
 abbrev pub begins_bulk_out : Request → ℕ → TransferType → List ℕ → List ℕ → Beginning
 begins_bulk_out x e k buf m =
     let s = start_out (target_of x) k false 0 x.length buf m in
-    record { next = Busy (record { request = x; stage = out_stage s.stage }); answer = begun; armed = outs_armed x.address e s.first s.second; writes = s.writes; memory = s.memory }
+    record { next = Some (record { request = x; stage = out_stage s.stage }); answer = Ok tt; armed = outs_armed x.address e s.first s.second; writes = s.writes; memory = s.memory }
 
 -- A bulk IN begin, on any state and whatever is lent.
-unfoldable pub begin_bulk_in_of : Transfer → ℕ → ℕ → ℕ → TransferType → Bool → List ℕ → List ℕ → List ℕ → Beginning
+unfoldable pub begin_bulk_in_of : Option Run → ℕ → ℕ → ℕ → TransferType → Bool → List ℕ → List ℕ → List ℕ → Beginning
 begin_bulk_in_of t a e p k b buf m log =
     begin_or (begin_refusal (lent_fits m log) (is_idle t) (fields_refusal (address_good a) (endpoint_good e) (size_good p) (nat_le (length buf) 0xFFFF))) t m (begins_bulk_in (bulk_request In a e p b (length buf)) k m)
 
 -- A bulk OUT begin, on any state and whatever is lent.
-unfoldable pub begin_bulk_out_of : Transfer → ℕ → ℕ → ℕ → TransferType → Bool → List ℕ → List ℕ → List ℕ → Beginning
+unfoldable pub begin_bulk_out_of : Option Run → ℕ → ℕ → ℕ → TransferType → Bool → List ℕ → List ℕ → List ℕ → Beginning
 begin_bulk_out_of t a e p k b buf m log =
     begin_or (begin_refusal (lent_fits m log) (is_idle t) (fields_refusal (address_good a) (endpoint_good e) (size_good p) (nat_le (length buf) 0xFFFF))) t m (begins_bulk_out (bulk_request Out a e p b (length buf)) e k buf m)

@@ -1,30 +1,22 @@
 -- How many entries of the wire record a transfer has armed, and which calls answer it (request R-13).
-use Rattle.std.specs.Prelude.{ℕ, ◌+◌, ◌%◌, Bool, cond, ◌||◌, ◌==◌, nat_le}
+use Rattle.std.specs.Prelude.{ℕ, ◌+◌, ◌%◌, Bool, cond, ◌||◌, ◌==◌, nat_le, Err, None, Ok, Option, Result, Some}
 use Rattle.transfers.specs.declared.refusal.Refusal.{Refusal}
-use Rattle.transfers.specs.declared.answers.BeginAnswer.{BeginAnswer}
-use Rattle.transfers.specs.declared.answers.BeginAnswer.TheVariants.{Begun as begun, Refused as refused_begin}
-use Rattle.transfers.specs.declared.answers.StepAnswer.{StepAnswer}
-use Rattle.transfers.specs.declared.answers.StepAnswer.TheVariants.{Waiting, Done, Refused}
-use Rattle.transfers.specs.declared.answers.CancelAnswer.{CancelAnswer}
-use Rattle.transfers.specs.declared.answers.CancelAnswer.TheVariants.{Cancelled, Refused as refused_cancel}
-use Rattle.transfers.specs.declared.answers.OptionEntries.{OptionEntries}
-use Rattle.transfers.specs.declared.answers.OptionEntries.TheVariants.{Some as some_count, None as no_count}
 use Rattle.transfers.specs.declared.answers.Armed.{Armed}
-use Rattle.transfers.specs.declared.answers.OptionSetup.{OptionSetup}
-use Rattle.transfers.specs.declared.answers.OptionSetup.TheVariants.{Some as some_setup, None as no_setup}
-use Rattle.transfers.specs.declared.answers.OptionOut.{OptionOut}
-use Rattle.transfers.specs.declared.answers.OptionOut.TheVariants.{Some as some_out, None as no_out}
 use Rattle.transfers.specs.Refusal.{number_of}
+use Rattle.transfers.specs.declared.answers.Step.TheVariants.{Done, Waiting}
+use Rattle.transfers.specs.declared.answers.Step.{Step}
+use Rattle.transfers.specs.declared.answers.ArmedOut.{ArmedOut}
+use Rattle.transfers.specs.declared.answers.ArmedSetup.{ArmedSetup}
 
 -- A SETUP is one entry.
-abbrev pub setup_count : OptionSetup → ℕ
-setup_count no_setup = 0
-setup_count (some_setup s) = 1
+abbrev pub setup_count : Option ArmedSetup → ℕ
+setup_count None = 0
+setup_count (Some s) = 1
 
 -- So is an OUT packet.
-abbrev pub out_count : OptionOut → ℕ
-out_count no_out = 0
-out_count (some_out x) = 1
+abbrev pub out_count : Option ArmedOut → ℕ
+out_count None = 0
+out_count (Some x) = 1
 
 -- All that a call armed.
 abbrev pub armed_count : Armed → ℕ
@@ -43,28 +35,28 @@ abbrev pub ends : Refusal → Bool
 ends why = nat_le (number_of why) 7 || number_of why == 9
 
 -- A begin starts the count with what it armed; one that is refused leaves it.
-abbrev pub entries_begun : BeginAnswer → ℕ → Armed → ℕ
-entries_begun begun n a = armed_count a
-entries_begun (refused_begin why) n a = n
+abbrev pub entries_begun : Result (Unit {0}) Refusal → ℕ → Armed → ℕ
+entries_begun (Ok tt) n a = armed_count a
+entries_begun (Err why) n a = n
 
 -- With nothing under way the count is 0.
-abbrev pub entries_stepped : StepAnswer → ℕ → Armed → ℕ
-entries_stepped (Waiting again) n a = tally n a
-entries_stepped (Done k) n a = 0
-entries_stepped (Refused why) n a = cond (ends why) 0 n
+abbrev pub entries_stepped : Result Step Refusal → ℕ → Armed → ℕ
+entries_stepped (Ok (Waiting again)) n a = tally n a
+entries_stepped (Ok (Done k)) n a = 0
+entries_stepped (Err why) n a = cond (ends why) 0 n
 
 -- The same of a cancel.
-abbrev pub entries_cancelled : CancelAnswer → ℕ → ℕ
-entries_cancelled Cancelled n = 0
-entries_cancelled (refused_cancel why) n = n
+abbrev pub entries_cancelled : Result (Unit {0}) Refusal → ℕ → ℕ
+entries_cancelled (Ok tt) n = 0
+entries_cancelled (Err why) n = n
 
 -- "that step or cancel answers the count": a step that fails arms nothing.
-abbrev pub failed_step : StepAnswer → ℕ → OptionEntries
-failed_step (Waiting again) n = no_count
-failed_step (Done k) n = no_count
-failed_step (Refused why) n = cond (ends why) (some_count n) no_count
+abbrev pub failed_step : Result Step Refusal → ℕ → Option ℕ
+failed_step (Ok (Waiting again)) n = None
+failed_step (Ok (Done k)) n = None
+failed_step (Err why) n = cond (ends why) (Some n) None
 
 -- The same of a cancel.
-abbrev pub failed_cancel : CancelAnswer → ℕ → OptionEntries
-failed_cancel Cancelled n = some_count n
-failed_cancel (refused_cancel why) n = no_count
+abbrev pub failed_cancel : Result (Unit {0}) Refusal → ℕ → Option ℕ
+failed_cancel (Ok tt) n = Some n
+failed_cancel (Err why) n = None

@@ -1,14 +1,14 @@
 -- The interrupt routine: `on_irq` "answers the set of pipes to wake and whether to wake detection".
-use Rattle.std.specs.Prelude.{◌≡◌, ℕ, ◌*◌, Bool, true, false, not, ◌&&◌, ◌||◌, List, [], ◌∷◌, ◌++◌, ◌==◌}
+use Rattle.std.specs.Prelude.{◌≡◌, ℕ, ◌*◌, Bool, true, false, not, ◌&&◌, ◌||◌, List, [], ◌∷◌, ◌++◌, ◌==◌, Err, Ok, Result}
 use Rattle.pool.specs.Set.{set_of}
 use Rattle.transfers.specs.declared.refusal.Refusal.TheVariants.{LentMemory}
-use Rattle.transfers.specs.declared.irq.IrqAnswer.{IrqAnswer}
-use Rattle.transfers.specs.declared.irq.IrqAnswer.TheVariants.{Wake, Refused}
 use Rattle.transfers.specs.declared.irq.Woken.{Woken}
 use Rattle.transfers.specs.Log.{Write, wr, Wrote}
 use Rattle.transfers.specs.Masks.{is_ready}
 use Rattle.transfers.specs.Memory.{log_fits}
 use Rattle.transfers.specs.Registers.{field, bit, ones, buff_status, inte}
+use Rattle.transfers.specs.declared.refusal.Refusal.{Refusal}
+use Rattle.transfers.specs.declared.irq.Wake.{Wake}
 
 -- "The interrupt routine now looks at 0 to 15."
 abbrev pub irq_pipes : ℕ
@@ -33,14 +33,14 @@ clear_writes false = []
 
 -- What a call does: the answer, and the writes.
 pub record Waking : Type 0 where
-  pub answer : IrqAnswer
+  pub answer : Result Wake Refusal
   pub writes : List Write
 
 -- 15 where the log is short; else whom to wake, and every interrupt that was raised is disabled.
 abbrev pub waking_if : Bool → ℕ → ℕ → Waking
-waking_if false ints status = record { answer = Refused LentMemory; writes = [] }
+waking_if false ints status = record { answer = Err LentMemory; writes = [] }
 waking_if true ints status = record {
-  answer = Wake (record { pipes = woken_pipes ints status; detect = bit 0 ints });
+  answer = Ok (record { pipes = woken_pipes ints status; detect = bit 0 ints });
   writes = clear_writes (bit 4 ints) ++ (wr inte ints 0 ∷ []);
 }
 

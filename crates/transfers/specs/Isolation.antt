@@ -1,8 +1,6 @@
 -- "Two runs that agree on pipe n's being open, its packet size, sample, area, toggle and lent lengths answer a poll of n alike, though every other pipe differs."
-use Rattle.std.specs.Prelude.{◌≡◌, ℕ, ◌-◌, Bool, true, false, List, length, take, drop, slice_index_or}
+use Rattle.std.specs.Prelude.{◌≡◌, ℕ, ◌-◌, Bool, true, false, List, length, take, drop, slice_index_or, None, Option, Some}
 use Rattle.pool.specs.declared.bitset.BitSet.{BitSet}
-use Rattle.pool.specs.declared.async_pool.OptionIndex.{OptionIndex}
-use Rattle.pool.specs.declared.async_pool.OptionIndex.TheVariants.{Some as SomeIndex, None as NoIndex}
 use Rattle.pool.specs.declared.pipe.PipeNumber.{PipeNumber}
 use Rattle.pool.specs.Pipe.{offset, pipes}
 use Rattle.transfers.specs.declared.driver.Driver.{Driver}
@@ -11,11 +9,12 @@ use Rattle.transfers.specs.declared.driver.Pipe.{Pipe}
 use Rattle.transfers.specs.declared.pipes.PipeSample.{PipeSample}
 use Rattle.transfers.specs.Memory.{MemoryFits}
 use Rattle.transfers.specs.Pipes.{no_pipe, pipe_area, index_open, Polling, polling}
+use Rattle.pool.specs.declared.async_pool.PoolIndex.{PoolIndex}
 
 -- There is an index.
-abbrev pub is_some : OptionIndex → Bool
-is_some (SomeIndex at) = true
-is_some NoIndex = false
+abbrev pub is_some : Option PoolIndex → Bool
+is_some (Some at) = true
+is_some None = false
 
 -- Pipe n is open.
 abbrev pub is_open : BitSet → PipeNumber → Bool

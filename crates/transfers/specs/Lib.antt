@@ -24,6 +24,7 @@ pub mod Isolation
 pub mod Apart
 pub mod ProvedTable
 -- What the crate's own functions are held to.
+pub mod Puts
 pub mod Arms
 pub mod Starts
 pub mod Acts

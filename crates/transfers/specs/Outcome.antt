@@ -1,18 +1,13 @@
 -- What a step or a begin does: the next state, the answer, the toggle handed out under either desk rule, what was armed, the writes, packet memory and buffer as it leaves them.
-use Rattle.std.specs.Prelude.{ℕ, Bool, true, false, not, List, [], ◌++◌}
+use Rattle.std.specs.Prelude.{ℕ, Bool, true, false, not, List, [], ◌++◌, Err, None, Ok, Option, Result, Some}
 use Rattle.cutting.specs.declared.transfer_type.TransferType.{TransferType}
 use Rattle.cutting.specs.declared.transfer_type.TransferType.TheVariants.{FixedSize}
-use Rattle.cutting.specs.declared.packetiser.OptionArm.{OptionArm}
 use Rattle.cutting.specs.Counters.{in_start_of, out_start}
 use Rattle.transfers.specs.declared.host_controller.UsbError.{UsbError}
 use Rattle.transfers.specs.declared.refusal.Refusal.TheVariants.{Usb}
-use Rattle.transfers.specs.declared.answers.StepAnswer.{StepAnswer}
-use Rattle.transfers.specs.declared.answers.StepAnswer.TheVariants.{Waiting, Refused}
 use Rattle.transfers.specs.declared.answers.Armed.{Armed}
 use Rattle.transfers.specs.declared.wire.Direction.TheVariants.{In, Out}
 use Rattle.transfers.specs.declared.writes.Target.{Target}
-use Rattle.transfers.specs.declared.driver.Transfer.{Transfer}
-use Rattle.transfers.specs.declared.driver.Transfer.TheVariants.{Idle, Busy}
 use Rattle.transfers.specs.declared.driver.Request.{Request}
 use Rattle.transfers.specs.declared.driver.Kind.{Kind}
 use Rattle.transfers.specs.declared.driver.Kind.TheVariants.{Control as control, Bulk as bulk}
@@ -25,11 +20,16 @@ use Rattle.transfers.specs.Answers.{nothing_armed, outs_armed}
 use Rattle.transfers.specs.Writes.{head_writes, enable_writes, go_writes}
 use Rattle.transfers.specs.Arming.{in_arm_two, out_arm_two}
 use Rattle.transfers.specs.State.{endpoint_of, target_of}
+use Rattle.transfers.specs.declared.answers.Step.TheVariants.{Waiting}
+use Rattle.transfers.specs.declared.refusal.Refusal.{Refusal}
+use Rattle.transfers.specs.declared.answers.Step.{Step}
+use Rattle.transfers.specs.declared.driver.Run.{Run}
+use Rattle.cutting.specs.declared.packetiser.Arm.{Arm}
 
 -- What a step does: the next state, the answer, the toggle that desk rule 1 hands out and the one that rule 2 does, what was armed, the writes, packet memory and buffer.
 pub record Outcome : Type 0 where
-  pub next : Transfer
-  pub answer : StepAnswer
+  pub next : Option Run
+  pub answer : Result Step Refusal
   pub toggle : Bool
   pub moved : Bool
   pub armed : Armed
@@ -57,17 +57,17 @@ toggle_out (control c) parity = false
 toggle_out (bulk b) parity = flipped b.toggle parity
 
 -- The transfer ends, and frees the control pipe.
-abbrev pub ended : StepAnswer → Bool → Bool → List ℕ → List ℕ → Outcome
-ended a t v m buf = record { next = Idle; answer = a; toggle = t; moved = v; armed = nothing_armed; writes = []; memory = m; buffer = buf }
+abbrev pub ended : Result Step Refusal → Bool → Bool → List ℕ → List ℕ → Outcome
+ended a t v m buf = record { next = None; answer = a; toggle = t; moved = v; armed = nothing_armed; writes = []; memory = m; buffer = buf }
 
 -- The transfer ends with an error's number (1 to 7 and 9): "Desk rule 1 leaves the bulk toggle as it was .. rule 2 flips it once per packet retired before the failure".
 abbrev pub failed : Request → Bool → UsbError → List ℕ → List ℕ → Outcome
-failed x parity e m buf = ended (Refused (Usb e)) (toggle_in x.kind) (toggle_out x.kind parity) m buf
+failed x parity e m buf = ended (Err (Usb e)) (toggle_in x.kind) (toggle_out x.kind parity) m buf
 
 -- The transfer goes on in a stage. `again` is the poll's being ready.
 abbrev pub waits : Request → Stage → Bool → Armed → List Write → List ℕ → List ℕ → Outcome
 waits x st again a ws m buf =
-    record { next = Busy (record { request = x; stage = st }); answer = Waiting again; toggle = toggle_in x.kind; moved = toggle_in x.kind; armed = a; writes = ws; memory = m; buffer = buf }
+    record { next = Some (record { request = x; stage = st }); answer = Ok (Waiting again); toggle = toggle_in x.kind; moved = toggle_in x.kind; armed = a; writes = ws; memory = m; buffer = buf }
 
 -- ---- a stage of n bytes begins: its first packets are armed and the transaction is started (rp2040.rs, `control_transfer_inner`)
 
@@ -90,8 +90,8 @@ pub record OutStarted : Type 0 where
   pub stage : OutStage
   pub writes : List Write
   pub memory : List ℕ
-  pub first : OptionArm
-  pub second : OptionArm
+  pub first : Option Arm
+  pub second : Option Arm
 
 -- An OUT stage of n bytes begins.
 unfoldable pub start_out : Target → TransferType → Bool → ℕ → ℕ → List ℕ → List ℕ → OutStarted

@@ -1,13 +1,9 @@
 -- The interrupt pipes: "Buffer of pipe n at 0x200 + 128 × n, poll interval min(interval, 9), at most 64 bytes handed out. A packet flips the toggle and arms again."
-use Rattle.std.specs.Prelude.{◌≡◌, ℕ, ◌+◌, ◌-◌, ◌*◌, ◌^◌, min, Bool, true, false, cond, not, List, [], ◌∷◌, ◌++◌, take, drop, replicate, slice_index_or, slice_set}
+use Rattle.std.specs.Prelude.{◌≡◌, ℕ, ◌+◌, ◌-◌, ◌*◌, ◌^◌, min, Bool, true, false, cond, not, List, [], ◌∷◌, ◌++◌, take, drop, replicate, slice_index_or, slice_set, Err, None, Ok, Option, Result, Some}
 use Rattle.pool.specs.declared.bitset.BitSet.{BitSet}
 use Rattle.pool.specs.declared.async_pool.Pool.{Pool}
 use Rattle.pool.specs.declared.async_pool.PoolIndex.{PoolIndex}
-use Rattle.pool.specs.declared.async_pool.OptionIndex.{OptionIndex}
-use Rattle.pool.specs.declared.async_pool.OptionIndex.TheVariants.{Some as SomeIndex, None as NoIndex}
 use Rattle.pool.specs.declared.pipe.PipeNumber.{PipeNumber}
-use Rattle.pool.specs.declared.pipe.OptionPipe.{OptionPipe}
-use Rattle.pool.specs.declared.pipe.OptionPipe.TheVariants.{Some as SomePipe, None as NoPipe}
 use Rattle.pool.specs.Set.{has}
 use Rattle.pool.specs.Pool.{alloc_of, free_of}
 use Rattle.pool.specs.Pipe.{pipe_of, index_of}
@@ -20,18 +16,14 @@ use Rattle.transfers.specs.declared.driver.Driver.{Driver}
 use Rattle.transfers.specs.declared.driver.Pipes.{Pipes}
 use Rattle.transfers.specs.declared.driver.Pipe.{Pipe}
 use Rattle.transfers.specs.declared.pipes.PipeSample.{PipeSample}
-use Rattle.transfers.specs.declared.pipes.OpenAnswer.{OpenAnswer}
-use Rattle.transfers.specs.declared.pipes.OpenAnswer.TheVariants.{Pipe as OpenPipe, Refused as OpenRefused}
-use Rattle.transfers.specs.declared.pipes.PipesClosed.{PipesClosed}
 use Rattle.transfers.specs.declared.pipes.Closed.{Closed as CloseResult}
-use Rattle.transfers.specs.declared.pipes.CloseAnswer.TheVariants.{Closed, Refused as CloseRefused}
-use Rattle.transfers.specs.declared.pipes.PollAnswer.{PollAnswer}
-use Rattle.transfers.specs.declared.pipes.PollAnswer.TheVariants.{Packet, Waiting, Refused as PollRefused}
 use Rattle.transfers.specs.Log.{Write, wr, delay, Wrote}
 use Rattle.transfers.specs.Memory.{log_fits, lent_fits}
 use Rattle.transfers.specs.State.{address_good, endpoint_good, size_good}
 use Rattle.transfers.specs.Writes.{preamble}
 use Rattle.transfers.specs.Registers.{field, bit, weigh, ones, addr_endp_of, ep_control, ep_buffer_of, inte, int_ep_ctrl, ep_status_stall_nak}
+use Rattle.transfers.specs.declared.pipes.Poll.TheVariants.{Packet, Waiting}
+use Rattle.transfers.specs.declared.pipes.Poll.{Poll}
 
 -- No pipe open, sizes 0, toggles false.
 abbrev pub no_pipe : Pipe
@@ -69,26 +61,26 @@ open_writes n address extras endpoint size interval =
 -- What open does: the next state, the answer, and the writes.
 pub record Opening (S : Type 0) : Type 0 where
   pub next : S
-  pub answer : OpenAnswer
+  pub answer : Result PipeNumber Refusal
   pub writes : List Write
 
 -- A refused open leaves all as it was.
 abbrev pub refuse_open : Pipes → Refusal → Opening Pipes
-refuse_open ps why = record { next = ps; answer = OpenRefused why; writes = [] }
+refuse_open ps why = record { next = ps; answer = Err why; writes = [] }
 
 -- The pipe that is opened: "10 all 15 open".
-abbrev pub open_number : OptionPipe → PoolIndex → BitSet → Pipes → ℕ → TransferExtras → ℕ → ℕ → ℕ → Opening Pipes
-open_number NoPipe at left ps address extras endpoint size interval = refuse_open ps (Usb TooManyDevices)
-open_number (SomePipe n) at left ps address extras endpoint size interval = record {
+abbrev pub open_number : Option PipeNumber → PoolIndex → BitSet → Pipes → ℕ → TransferExtras → ℕ → ℕ → ℕ → Opening Pipes
+open_number None at left ps address extras endpoint size interval = refuse_open ps (Usb TooManyDevices)
+open_number (Some n) at left ps address extras endpoint size interval = record {
   next = record { opened = left; each = slice_set ps.each at.0 (record { size = size; toggle = false }) };
-  answer = OpenPipe n;
+  answer = Ok n;
   writes = open_writes n.0 address extras endpoint size interval;
 }
 
 -- "10 all 15 open"
-abbrev pub open_index : OptionIndex → BitSet → Pipes → ℕ → TransferExtras → ℕ → ℕ → ℕ → Opening Pipes
-open_index NoIndex left ps address extras endpoint size interval = refuse_open ps (Usb TooManyDevices)
-open_index (SomeIndex at) left ps address extras endpoint size interval = open_number (pipe_of at) at left ps address extras endpoint size interval
+abbrev pub open_index : Option PoolIndex → BitSet → Pipes → ℕ → TransferExtras → ℕ → ℕ → ℕ → Opening Pipes
+open_index None left ps address extras endpoint size interval = refuse_open ps (Usb TooManyDevices)
+open_index (Some at) left ps address extras endpoint size interval = open_number (pipe_of at) at left ps address extras endpoint size interval
 
 -- The lowest free index is opened.
 unfoldable pub open_free : Pipes → ℕ → TransferExtras → ℕ → ℕ → ℕ → Opening Pipes
@@ -122,7 +114,7 @@ abbrev pub opening : Driver → ℕ → TransferExtras → ℕ → ℕ → ℕ �
 opening d address extras endpoint size interval log = with_opening d (opening_pipe d.pipes address extras endpoint size interval log)
 
 -- What open hands back, from what it does.
-pub record DidOpen {S : Type 0} (e : Opening S) (s : S) (a : OpenAnswer) (k : ℕ) (l l' : List ℕ) : Type 0 where
+pub record DidOpen {S : Type 0} (e : Opening S) (s : S) (a : Result PipeNumber Refusal) (k : ℕ) (l l' : List ℕ) : Type 0 where
   pub next : s ≡ e.next
   pub answer : a ≡ e.answer
   pub log : Wrote l 0 e.writes l' k
@@ -130,27 +122,27 @@ pub record DidOpen {S : Type 0} (e : Opening S) (s : S) (a : OpenAnswer) (k : �
 -- ---- which pipe is open
 
 -- The index, where it is in the set of those handed out.
-abbrev pub handed_out : BitSet → OptionIndex → OptionIndex
-handed_out s NoIndex = NoIndex
-handed_out s (SomeIndex at) = cond (has s.0 at.0) (SomeIndex at) NoIndex
+abbrev pub handed_out : BitSet → Option PoolIndex → Option PoolIndex
+handed_out s None = None
+handed_out s (Some at) = cond (has s.0 at.0) (Some at) None
 
 -- The index of a pipe that is open: "17 pipe not open, or its number not 1 to 15".
-unfoldable pub index_open : BitSet → PipeNumber → OptionIndex
+unfoldable pub index_open : BitSet → PipeNumber → Option PoolIndex
 index_open s n = handed_out s (index_of n)
 
 -- ---- close
 
 -- The pool has the index back; size and toggle stay.
-abbrev pub close_index : OptionIndex → Pipes → PipesClosed
-close_index NoIndex ps = record { next = ps; answer = CloseRefused PipeNotOpen }
-close_index (SomeIndex at) ps = record { next = record { opened = (free_of (pool_of ps.opened) at).pool.allocated; each = ps.each }; answer = Closed }
+abbrev pub close_index : Option PoolIndex → Pipes → CloseResult Pipes
+close_index None ps = record { next = ps; answer = Err PipeNotOpen }
+close_index (Some at) ps = record { next = record { opened = (free_of (pool_of ps.opened) at).pool.allocated; each = ps.each }; answer = Ok tt }
 
 -- A close, on any pipes.
-unfoldable pub closing_pipe : Pipes → PipeNumber → PipesClosed
+unfoldable pub closing_pipe : Pipes → PipeNumber → CloseResult Pipes
 closing_pipe ps n = close_index (index_open ps.opened n) ps
 
 -- A close, on any driver.
-abbrev pub closing : Driver → PipeNumber → CloseResult
+abbrev pub closing : Driver → PipeNumber → CloseResult Driver
 closing d n = record { next = with_pipes d (closing_pipe d.pipes n).next; answer = (closing_pipe d.pipes n).answer }
 
 -- ---- poll
@@ -182,13 +174,13 @@ wait_writes n = wr inte 0x10 0x10 ∷ wr int_ep_ctrl (2 ^ n) (2 ^ n) ∷ wr ep_s
 -- What poll does: the next state, the answer, the packet (all zeros where there is none), and the writes.
 pub record Polling (S : Type 0) : Type 0 where
   pub next : S
-  pub answer : PollAnswer
+  pub answer : Result Poll Refusal
   pub packet : InterruptPacket
   pub writes : List Write
 
 -- A refused poll leaves all as it was.
 abbrev pub refuse_poll : Pipes → Refusal → Polling Pipes
-refuse_poll ps why = record { next = ps; answer = PollRefused why; packet = no_packet; writes = [] }
+refuse_poll ps why = record { next = ps; answer = Err why; packet = no_packet; writes = [] }
 
 -- What is held of the pipe at an index.
 abbrev pub held_at : Pipes → PoolIndex → Pipe
@@ -198,17 +190,17 @@ held_at ps at = slice_index_or ps.each at.0 no_pipe
 unfoldable pub poll_full : PoolIndex → Pipes → PipeNumber → PipeSample → List ℕ → Polling Pipes
 poll_full at ps n s pm = record {
   next = record { opened = ps.opened; each = slice_set ps.each at.0 (record { size = (held_at ps at).size; toggle = not (held_at ps at).toggle }) };
-  answer = Packet;
+  answer = Ok Packet;
   packet = packet_of n.0 s pm;
   writes = arm_pipe n.0 (not (held_at ps at).toggle) (held_at ps at).size;
 }
 
 -- The tests, in their order: lent memory, the pipe open, FULL_0.
-abbrev pub poll_if : Bool → OptionIndex → Bool → Pipes → PipeNumber → PipeSample → List ℕ → Polling Pipes
+abbrev pub poll_if : Bool → Option PoolIndex → Bool → Pipes → PipeNumber → PipeSample → List ℕ → Polling Pipes
 poll_if false o full ps n s pm = refuse_poll ps LentMemory
-poll_if true NoIndex full ps n s pm = refuse_poll ps PipeNotOpen
-poll_if true (SomeIndex at) false ps n s pm = record { next = ps; answer = Waiting; packet = no_packet; writes = wait_writes n.0 }
-poll_if true (SomeIndex at) true ps n s pm = poll_full at ps n s pm
+poll_if true None full ps n s pm = refuse_poll ps PipeNotOpen
+poll_if true (Some at) false ps n s pm = record { next = ps; answer = Ok Waiting; packet = no_packet; writes = wait_writes n.0 }
+poll_if true (Some at) true ps n s pm = poll_full at ps n s pm
 
 -- A poll, on any pipes.
 unfoldable pub polling_pipe : Pipes → PipeNumber → PipeSample → List ℕ → List ℕ → Polling Pipes
@@ -223,7 +215,7 @@ abbrev pub polling : Driver → PipeNumber → PipeSample → List ℕ → List 
 polling d n s pm log = with_polling d (polling_pipe d.pipes n s pm log)
 
 -- What poll hands back, from what it does.
-pub record DidPoll {S : Type 0} (e : Polling S) (s : S) (a : PollAnswer) (p : InterruptPacket) (k : ℕ) (l l' : List ℕ) : Type 0 where
+pub record DidPoll {S : Type 0} (e : Polling S) (s : S) (a : Result Poll Refusal) (p : InterruptPacket) (k : ℕ) (l l' : List ℕ) : Type 0 where
   pub next : s ≡ e.next
   pub answer : a ≡ e.answer
   pub packet : p ≡ e.packet

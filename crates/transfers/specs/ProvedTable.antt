@@ -1,13 +1,11 @@
 -- Document 01's "Proved table (star = marked last)", line by line. One theorem holds it all: `proved_table` in proofs/ProvedTable.antt.
-use Rattle.std.specs.Prelude.{◌≡◌, ℕ, zero, suc, Bool, true, List, [], ◌∷◌, map}
+use Rattle.std.specs.Prelude.{◌≡◌, ℕ, zero, suc, Bool, true, List, [], ◌∷◌, map, None, Option, Some}
 use Rattle.cutting.specs.declared.transfer_type.TransferType.{TransferType}
 use Rattle.cutting.specs.declared.transfer_type.TransferType.TheVariants.{FixedSize, VariableSize}
 use Rattle.cutting.specs.Cut.{in_cut_of}
 use Rattle.cutting.specs.Table.{plain, star, in_row, Cuts}
 use Rattle.transfers.specs.declared.host_controller.TransferExtras.{TransferExtras}
 use Rattle.transfers.specs.declared.refusal.Refusal.TheVariants.{Usb}
-use Rattle.transfers.specs.declared.sample.Poll.{Poll}
-use Rattle.transfers.specs.declared.sample.Poll.TheVariants.{Pending, Ready}
 use Rattle.transfers.specs.declared.sample.Found.TheVariants.{Complete, Failed, Neither}
 use Rattle.transfers.specs.declared.driver.Driver.{Driver}
 use Rattle.transfers.specs.Refusal.{number_of}
@@ -16,6 +14,7 @@ use Rattle.transfers.specs.Memory.{log_fits}
 use Rattle.transfers.specs.Sample.{classify}
 use Rattle.transfers.specs.State.{address_good, endpoint_good, size_good}
 use Rattle.transfers.specs.Pipes.{fresh_pipes, with_pipes, opening, closing}
+use Rattle.transfers.specs.declared.sample.Found.{Found}
 
 -- What the table has of a sample: a number is that of the refusal.
 pub data Row : Type 0 where
@@ -24,11 +23,11 @@ pub data Row : Type 0 where
   refused : ℕ → Row
 
 -- A sample, as every step finds it.
-abbrev pub status_row : Poll → Row
-status_row Pending = waiting
-status_row (Ready Complete) = complete
-status_row (Ready (Failed e)) = refused (number_of (Usb e))
-status_row (Ready Neither) = waiting
+abbrev pub status_row : Option Found → Row
+status_row None = waiting
+status_row (Some Complete) = complete
+status_row (Some (Failed e)) = refused (number_of (Usb e))
+status_row (Some Neither) = waiting
 
 -- The pool's lines hold whatever the fields are that open takes.
 module _ (address : ℕ) (extras : TransferExtras) (endpoint size interval : ℕ) (log : List ℕ) where

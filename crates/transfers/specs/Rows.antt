@@ -1,5 +1,5 @@
 -- Document 01's "Numbers by the place of the check": what each call answers, in the document's numbers and its order of checks.
-use Rattle.std.specs.Prelude.{ℕ, ◌+◌, ◌-◌, ◌*◌, Bool, true, false, cond, not, ◌&&◌, ◌||◌, List, length, ◌==◌, bit_and, nat_le, nat_lt}
+use Rattle.std.specs.Prelude.{ℕ, ◌+◌, ◌-◌, ◌*◌, Bool, true, false, cond, not, ◌&&◌, ◌||◌, List, length, ◌==◌, bit_and, nat_le, nat_lt, None, Option, Some}
 use Rattle.pool.specs.Set.{set_of, first_where}
 use Rattle.transfers.specs.declared.host_controller.DeviceStatus.{DeviceStatus}
 use Rattle.transfers.specs.declared.host_controller.DataPhase.{DataPhase}
@@ -8,8 +8,6 @@ use Rattle.transfers.specs.declared.wire.Direction.{Direction}
 use Rattle.transfers.specs.declared.wire.Direction.TheVariants.{In, Out}
 use Rattle.transfers.specs.declared.irq.Wake.{Wake}
 use Rattle.transfers.specs.declared.sample.Sample.{Sample}
-use Rattle.transfers.specs.declared.driver.Transfer.{Transfer}
-use Rattle.transfers.specs.declared.driver.Transfer.TheVariants.{Idle, Busy}
 use Rattle.transfers.specs.declared.driver.Request.{Request}
 use Rattle.transfers.specs.declared.driver.Kind.{Kind}
 use Rattle.transfers.specs.declared.driver.Kind.TheVariants.{Control as control, Bulk as bulk}
@@ -23,6 +21,7 @@ use Rattle.transfers.specs.State.{control_of}
 use Rattle.transfers.specs.Step.{in_received, lent}
 use Rattle.transfers.specs.Calls.{may_step, is_idle}
 use Rattle.transfers.specs.Detect.{same_status, status_of}
+use Rattle.transfers.specs.declared.driver.Run.{Run}
 
 -- Number n where a condition fails, else the rest.
 abbrev pub unless : {A : Type 0} → Bool → ℕ → Reply A → Reply A
@@ -40,11 +39,11 @@ abbrev pub bulk_fields_row : ℕ → ℕ → ℕ → ℕ → Reply (Unit {0})
 bulk_fields_row a e p n = unless (nat_le a 127) 12 (unless (nat_le 1 e && nat_le e 15) 11 (unless (nat_le 1 p && nat_le p 64) 13 (unless (nat_le n 65535) 14 (result tt))))
 
 -- A control begin.
-abbrev pub control_row : Transfer → ℕ → ℕ → List ℕ → List ℕ → Reply (Unit {0})
+abbrev pub control_row : Option Run → ℕ → ℕ → List ℕ → List ℕ → Reply (Unit {0})
 control_row t a p m log = unless (length m == 4096 && nat_le 192 (length log)) 15 (unless (is_idle t) 8 (control_fields_row a p))
 
 -- A bulk begin, IN or OUT.
-abbrev pub bulk_row : Transfer → ℕ → ℕ → ℕ → List ℕ → List ℕ → List ℕ → Reply (Unit {0})
+abbrev pub bulk_row : Option Run → ℕ → ℕ → ℕ → List ℕ → List ℕ → List ℕ → Reply (Unit {0})
 bulk_row t a e p buf m log = unless (length m == 4096 && nat_le 192 (length log)) 15 (unless (is_idle t) 8 (bulk_fields_row a e p (length buf)))
 
 -- ---- step and cancel
@@ -119,18 +118,18 @@ acts_row x st s buf m =
     (cond (bit 18 s.status) (complete_row x st s.buffers buf m) (error_row s.status (goes_on_row st s.buffers)))
 
 -- "16 nothing under way that this call serves, or a state with ..; then, step only, 15 buffer length not that of begin"
-abbrev pub under_way_row : Bool → Transfer → Sample → List ℕ → List ℕ → Reply StepResult
-under_way_row filling Idle s buf m = number 16
-under_way_row filling (Busy r) s buf m = unless (may_step filling r) 16 (unless (length buf == r.request.length) 15 (acts_row r.request r.stage s buf m))
+abbrev pub under_way_row : Bool → Option Run → Sample → List ℕ → List ℕ → Reply StepResult
+under_way_row filling None s buf m = number 16
+under_way_row filling (Some r) s buf m = unless (may_step filling r) 16 (unless (length buf == r.request.length) 15 (acts_row r.request r.stage s buf m))
 
 -- A step that fills the buffer, or one that sends it.
-abbrev pub step_row_of : Bool → Transfer → Sample → List ℕ → List ℕ → List ℕ → Reply StepResult
+abbrev pub step_row_of : Bool → Option Run → Sample → List ℕ → List ℕ → List ℕ → Reply StepResult
 step_row_of filling t s buf m log = unless (length m == 4096 && nat_le 192 (length log)) 15 (under_way_row filling t s buf m)
 
 -- A cancel: 16 where neither step serves the state.
-abbrev pub cancel_row : Transfer → Reply (Unit {0})
-cancel_row Idle = number 16
-cancel_row (Busy r) = unless (may_step true r || may_step false r) 16 (result tt)
+abbrev pub cancel_row : Option Run → Reply (Unit {0})
+cancel_row None = number 16
+cancel_row (Some r) = unless (may_step true r || may_step false r) 16 (result tt)
 
 -- ---- interrupt pipes: `opened` is the word of the set of open pipes, "index 0 to 14 is pipe 1 to 15"
 

@@ -1,9 +1,7 @@
 -- What a step's sample shows: document 01, "steps".
-use Rattle.std.specs.Prelude.{ℕ, Bool, cond, List, [], ◌∷◌, ◌==◌, bit_and}
+use Rattle.std.specs.Prelude.{ℕ, Bool, cond, List, [], ◌∷◌, ◌==◌, bit_and, None, Option, Some}
 use Rattle.transfers.specs.declared.host_controller.UsbError.{UsbError}
 use Rattle.transfers.specs.declared.host_controller.UsbError.TheVariants.{Stall, Timeout, Overflow, BitStuffError, CrcError, DataSeqError}
-use Rattle.transfers.specs.declared.sample.Poll.{Poll}
-use Rattle.transfers.specs.declared.sample.Poll.TheVariants.{Pending, Ready}
 use Rattle.transfers.specs.declared.sample.Found.{Found}
 use Rattle.transfers.specs.declared.sample.Found.TheVariants.{Complete, Failed, Neither}
 use Rattle.transfers.specs.Registers.{field, bit, at}
@@ -27,14 +25,9 @@ abbrev pub first_of : ℕ → List Error → Found
 first_of w [] = Neither
 first_of w (e ∷ es) = cond (bit e.place w) (Failed e.is) (first_of w es)
 
--- The place of the first error that is set, 0 where none is.
-abbrev pub first_place : ℕ → List Error → ℕ
-first_place w [] = 0
-first_place w (e ∷ es) = cond (bit e.place w) e.place (first_place w es)
-
 -- "A poll is ready when INTR and 0x7F8 is not zero", else waiting; ready, "TRANS_COMPLETE wins; then errors"
-unfoldable pub classify : ℕ → ℕ → Poll
-classify status intr = cond (bit_and intr ready_mask == 0) Pending (Ready (cond (bit 18 status) Complete (first_of status errors)))
+unfoldable pub classify : ℕ → ℕ → Option Found
+classify status intr = cond (bit_and intr ready_mask == 0) None (Some (cond (bit 18 status) Complete (first_of status errors)))
 
 -- A slot's AVAILABLE, FULL and LENGTH in EP_BUFFER_CONTROL.
 abbrev pub available : ℕ → Bool → Bool

@@ -1,15 +1,12 @@
 -- A step that acts: one poll of `Rp2040ControlEndpoint` and what follows it (document 01, "steps"; rp2040.rs, `send_setup`, `control_transfer_inner`).
-use Rattle.std.specs.Prelude.{ℕ, Bool, true, false, List, [], ◌∷◌, ◌++◌, nat_lt}
+use Rattle.std.specs.Prelude.{ℕ, Bool, true, false, List, [], ◌∷◌, ◌++◌, nat_lt, None, Ok, Option, Some}
 use Rattle.cutting.specs.declared.packetiser.InPacketiser.{InPacketiser}
 use Rattle.cutting.specs.declared.packetiser.OutCounters.{OutCounters}
 use Rattle.cutting.specs.declared.depacketiser.InDepacketiser.{InDepacketiser}
 use Rattle.transfers.specs.declared.host_controller.UsbError.TheVariants.{BufferTooSmall, ProtocolError}
 use Rattle.transfers.specs.declared.host_controller.DataPhase.{DataPhase}
 use Rattle.transfers.specs.declared.host_controller.DataPhase.TheVariants.{In as phase_in, Out as phase_out, None as phase_none}
-use Rattle.transfers.specs.declared.answers.StepAnswer.TheVariants.{Done}
 use Rattle.transfers.specs.declared.sample.Sample.{Sample}
-use Rattle.transfers.specs.declared.sample.Poll.{Poll}
-use Rattle.transfers.specs.declared.sample.Poll.TheVariants.{Pending, Ready}
 use Rattle.transfers.specs.declared.sample.Found.{Found}
 use Rattle.transfers.specs.declared.sample.Found.TheVariants.{Complete, Failed, Neither}
 use Rattle.transfers.specs.declared.driver.Request.{Request}
@@ -26,6 +23,7 @@ use Rattle.transfers.specs.Arming.{in_arm_two, out_arm_two}
 use Rattle.transfers.specs.Retiring.{InRetiring, in_retire_one, OutRetiring, out_retire_one}
 use Rattle.transfers.specs.State.{endpoint_of, first_pid, stage_length, control_of}
 use Rattle.transfers.specs.Outcome.{Outcome, after, toggle_out, ended, failed, waits, enters_in, enters_out}
+use Rattle.transfers.specs.declared.answers.Step.TheVariants.{Done}
 
 -- ---- SETUP
 
@@ -61,13 +59,13 @@ status_count phase_none n = 0
 
 -- The stage is complete: the end with a count, or the status stage.
 abbrev pub in_control_done : Bool → DataPhase → Request → ℕ → List ℕ → List ℕ → Outcome
-in_control_done true ph x n m buf = ended (Done (status_count ph x.length)) false false m buf
+in_control_done true ph x n m buf = ended (Ok (Done (status_count ph x.length))) false false m buf
 in_control_done false ph x n m buf = enters_out x true n 0 [] m buf
 
 -- A bulk IN ends with the bytes received.
 abbrev pub in_done : Kind → Bool → Request → InDepacketiser → List ℕ → List ℕ → Outcome
 in_done (control c) status x d m buf = in_control_done status c.phase x d.offset m buf
-in_done (bulk b) status x d m buf = let t = toggle_out (bulk b) d.parity in ended (Done d.offset) t t m buf
+in_done (bulk b) status x d m buf = let t = toggle_out (bulk b) d.parity in ended (Ok (Done d.offset)) t t m buf
 
 -- "A completed data or status stage also retires up to two."
 abbrev pub in_second_done : Bool → InRetiring → Request → Bool → List ℕ → Outcome
@@ -130,13 +128,13 @@ out_retire_two w s k = let g = out_retire_one w s k in out_retire_one w g.parity
 
 -- A control In's status is its end, with the count received; a control Out's data is followed by its status.
 abbrev pub out_control_done : Bool → Request → ℕ → List ℕ → List ℕ → Outcome
-out_control_done true x received m buf = ended (Done received) false false m buf
+out_control_done true x received m buf = ended (Ok (Done received)) false false m buf
 out_control_done false x received m buf = enters_in x true 0 m buf
 
 -- A bulk OUT counts its buffer.
 abbrev pub out_done : Kind → Request → OutStage → Bool → List ℕ → List ℕ → Outcome
 out_done (control c) x st parity m buf = out_control_done st.status x st.received m buf
-out_done (bulk b) x st parity m buf = let t = toggle_out (bulk b) parity in ended (Done x.length) t t m buf
+out_done (bulk b) x st parity m buf = let t = toggle_out (bulk b) parity in ended (Ok (Done x.length)) t t m buf
 
 -- A completed OUT stage.
 unfoldable pub out_complete : Request → OutStage → ℕ → List ℕ → List ℕ → Outcome
@@ -179,9 +177,9 @@ stage_step f x (in_stage st) w buf m = keeping st.status buf (in_step f x st w (
 stage_step f x (out_stage st) w buf m = keeping st.status buf (out_step f x st w (lent st.status buf) m)
 
 -- "A poll is ready when INTR and 0x7F8 is not zero": then the SIE_STATUS write is made and the stage goes on; else waiting.
-abbrev pub polls : Poll → Request → Stage → ℕ → List ℕ → List ℕ → Outcome
-polls Pending x st w buf m = waits x st false nothing_armed (polled ∷ awaits ∷ []) m buf
-polls (Ready f) x st w buf m = after (polled ∷ []) (stage_step f x st w buf m)
+abbrev pub polls : Option Found → Request → Stage → ℕ → List ℕ → List ℕ → Outcome
+polls None x st w buf m = waits x st false nothing_armed (polled ∷ awaits ∷ []) m buf
+polls (Some f) x st w buf m = after (polled ∷ []) (stage_step f x st w buf m)
 
 -- What a step does that is not refused.
 unfoldable pub acts : Request → Stage → Sample → List ℕ → List ℕ → Outcome

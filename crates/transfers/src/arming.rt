@@ -2,197 +2,145 @@
 ghost use Rattle.std.specs.Prelude.{◌≡◌, ◌+◌, ◌<◌, ◌≤◌, length};
 ghost use Rattle.transfers.specs.Arming.{may_arm, in_arm, in_arm_two, out_arm, out_arm_two};
 ghost use Rattle.transfers.specs.Arms.{ArmsIn, ArmsOut, ArmsOutTwo};
-ghost use Rattle.transfers.specs.Memory.{LogFits, MemoryFits};
 
-use crate::memory::fill_slot;
+use crate::log::Log;
+use crate::memory::{PacketMemory, fill_slot};
 use crate::sample::slot_available;
 use crate::writes::put_arm;
-use cutting::packetiser::{InPacketiser, OptionArm, OutCounters, OutPacketiser, next_in};
+use cutting::packetiser::{Arm, InPacketiser, OutCounters, OutPacketiser, next_in};
 
 #[derive(Clone, Copy)]
 pub(crate) struct InArmed {
     pub packets: InPacketiser,
     pub inflight: u8,
-    pub writes: usize,
 }
 
 #[derive(Clone, Copy)]
 pub(crate) struct OutArmed {
     pub packets: OutCounters,
     pub inflight: u8,
-    pub arm: OptionArm,
-    pub writes: usize,
+    pub arm: Option<Arm>,
 }
 
 #[derive(Clone, Copy)]
 pub(crate) struct OutArmedTwo {
     pub packets: OutCounters,
     pub inflight: u8,
-    pub first: OptionArm,
-    pub second: OptionArm,
-    pub writes: usize,
+    pub first: Option<Arm>,
+    pub second: Option<Arm>,
 }
 
+#[inline(always)]
 fn may_arm(buffers: u32, inflight: u8, slot: bool) -> bool
     ensures { result ≡ may_arm buffers inflight slot }
 {
-    if inflight < 2 {
-        !slot_available(buffers, slot)
-    } else {
-        false
-    }
+    inflight < 2 && !slot_available(buffers, slot)
 }
 
-fn in_arm(buffers: u32, c: InPacketiser, inflight: u8, log: &mut [u32], k: usize) -> InArmed
-    requires { (k ≤ 61) × LogFits log.old }
-    ensures { ArmsIn (in_arm buffers c inflight) log.old k result log.new }
+// IN stays apart from OUT's `prepare`, which copies bytes and hands out the packet: one function over both would be no plainer, as a trait would have to bring the copy, the FULL mark and what is handed out.
+#[tactic(auto, unfolding(crate::specs::Arming::in_arm))]
+#[inline(always)]
+fn in_arm(buffers: u32, packets: InPacketiser, inflight: u8, log: &mut Log<'_>) -> InArmed
+    requires { log.old.used ≤ 61 }
+    ensures { ArmsIn (in_arm buffers packets inflight) log.old result log.new }
 {
-    if !may_arm(buffers, inflight, c.slot) {
-        return InArmed {
-            packets: c,
-            inflight: inflight,
-            writes: k,
-        };
+    if !may_arm(buffers, inflight, packets.slot) {
+        return InArmed { packets, inflight };
     }
-    let next = next_in(c);
-    let arm = next.arm;
-    let rest = next.rest;
-    match arm {
-        OptionArm::None => InArmed {
-            packets: rest,
-            inflight: inflight,
-            writes: k,
+    let next = next_in(packets);
+    match next.arm {
+        None => InArmed {
+            packets: next.rest,
+            inflight,
         },
-        OptionArm::Some(a) => InArmed {
-            packets: rest,
-            inflight: inflight + 1,
-            writes: put_arm(log, k, false, a),
-        },
-    }
-}
-
-pub(crate) fn in_arm_two(
-    buffers: u32,
-    c: InPacketiser,
-    inflight: u8,
-    log: &mut [u32],
-    k: usize,
-) -> InArmed
-    requires { (k ≤ 58) × LogFits log.old }
-    ensures { ArmsIn (in_arm_two buffers c inflight) log.old k result log.new }
-{
-    let g = in_arm(buffers, c, inflight, log, k);
-    let d = g.packets;
-    in_arm(buffers, d, g.inflight, log, g.writes)
-}
-
-// `prepare` of `OutPacketiser`, with its counters and its bytes apart.
-fn out_prepare(
-    buffers: u32,
-    c: OutCounters,
-    inflight: u8,
-    buf: &[u8],
-    pm: &mut [u8],
-    log: &mut [u32],
-    k: usize,
-) -> OutArmed
-    requires { (c.offset + c.remain ≤ length buf.now) × MemoryFits pm.old × (k ≤ 61) × LogFits log.old }
-    ensures { ArmsOut (out_arm buffers c inflight buf.now pm.old) log.old k result pm.new log.new }
-{
-    if !may_arm(buffers, inflight, c.slot) {
-        return OutArmed {
-            packets: c,
-            inflight: inflight,
-            arm: OptionArm::None,
-            writes: k,
-        };
-    }
-    let next = c.next_packet();
-    let arm = next.arm;
-    let rest = next.rest;
-    match arm {
-        OptionArm::None => OutArmed {
-            packets: rest,
-            inflight: inflight,
-            arm: OptionArm::None,
-            writes: k,
-        },
-        OptionArm::Some(a) => {
-            let from = c.offset as usize;
-            fill_slot(pm, a.slot, &buf[from..], a.length as usize);
-            OutArmed {
-                packets: rest,
+        Some(arm) => {
+            put_arm(log, false, arm);
+            InArmed {
+                packets: next.rest,
                 inflight: inflight + 1,
-                arm: OptionArm::Some(a),
-                writes: put_arm(log, k, true, a),
             }
         }
     }
 }
 
+#[tactic(auto, unfolding(crate::specs::Arming::in_arm_two))]
+#[inline(always)]
+pub(crate) fn in_arm_two(
+    buffers: u32,
+    packets: InPacketiser,
+    inflight: u8,
+    log: &mut Log<'_>,
+) -> InArmed
+    requires { log.old.used ≤ 58 }
+    ensures { ArmsIn (in_arm_two buffers packets inflight) log.old result log.new }
+{
+    let g = in_arm(buffers, packets, inflight, log);
+    in_arm(buffers, g.packets, g.inflight, log)
+}
+
 // `prepare` as in the Rust: the packetiser holds the caller's bytes beside its counters.
-fn prepare<'a>(
+#[tactic(auto, unfolding(crate::specs::Arming::out_arm))]
+#[inline(always)]
+fn prepare(
     buffers: u32,
-    p: OutPacketiser<'a>,
+    p: OutPacketiser<'_>,
     inflight: u8,
-    pm: &mut [u8],
-    log: &mut [u32],
-    k: usize,
+    pm: &mut PacketMemory,
+    log: &mut Log<'_>,
 ) -> OutArmed
-    requires { (p.counters.offset + p.counters.remain ≤ length p.buf.now) × MemoryFits pm.old × (k ≤ 61) × LogFits log.old }
-    ensures { ArmsOut (out_arm buffers p.entry.counters inflight p.entry.buf.now pm.old) log.old k result pm.new log.new }
+    requires { (p.counters.offset + p.counters.remain ≤ length p.buf.now) × (log.old.used ≤ 61) }
+    ensures { ArmsOut (out_arm buffers p.entry.counters inflight p.entry.buf.now pm.old) log.old result pm.new log.new }
 {
-    out_prepare(buffers, p.counters, inflight, p.buf, pm, log, k)
-}
-
-fn out_arm(
-    buffers: u32,
-    c: OutCounters,
-    inflight: u8,
-    buf: &[u8],
-    pm: &mut [u8],
-    log: &mut [u32],
-    k: usize,
-) -> OutArmed
-    requires { (c.offset + c.remain ≤ length buf.now) × MemoryFits pm.old × (k ≤ 61) × LogFits log.old }
-    ensures { ArmsOut (out_arm buffers c inflight buf.now pm.old) log.old k result pm.new log.new }
-{
-    prepare(
-        buffers,
-        OutPacketiser {
-            counters: c,
-            buf: buf,
+    let packets = p.counters;
+    if !may_arm(buffers, inflight, packets.slot) {
+        return OutArmed {
+            packets,
+            inflight,
+            arm: None,
+        };
+    }
+    let next = packets.next_packet();
+    match next.arm {
+        None => OutArmed {
+            packets: next.rest,
+            inflight,
+            arm: None,
         },
-        inflight,
-        pm,
-        log,
-        k,
-    )
+        Some(arm) => {
+            let from = packets.offset as usize;
+            fill_slot(pm, arm.slot, &p.buf[from..], arm.length as usize);
+            put_arm(log, true, arm);
+            OutArmed {
+                packets: next.rest,
+                inflight: inflight + 1,
+                arm: Some(arm),
+            }
+        }
+    }
 }
 
+#[tactic(auto, unfolding(crate::specs::Arming::out_arm_two))]
+#[inline(always)]
 pub(crate) fn out_arm_two(
     buffers: u32,
-    c: OutCounters,
+    p: OutPacketiser<'_>,
     inflight: u8,
-    buf: &[u8],
-    pm: &mut [u8],
-    log: &mut [u32],
-    k: usize,
+    pm: &mut PacketMemory,
+    log: &mut Log<'_>,
 ) -> OutArmedTwo
-    requires { (c.offset + c.remain ≤ length buf.now) × MemoryFits pm.old × (k ≤ 58) × LogFits log.old }
-    ensures { ArmsOutTwo (out_arm_two buffers c inflight buf.now pm.old) log.old k result pm.new log.new }
+    requires { (p.counters.offset + p.counters.remain ≤ length p.buf.now) × (log.old.used ≤ 58) }
+    ensures { ArmsOutTwo (out_arm_two buffers p.entry.counters inflight p.entry.buf.now pm.old) log.old result pm.new log.new }
 {
-    let g = out_arm(buffers, c, inflight, buf, pm, log, k);
-    let d = g.packets;
-    let first = g.arm;
-    let h = out_arm(buffers, d, g.inflight, buf, pm, log, g.writes);
-    let rest = h.packets;
-    let second = h.arm;
+    let g = prepare(buffers, p, inflight, pm, log);
+    let rest = OutPacketiser {
+        counters: g.packets,
+        buf: p.buf,
+    };
+    let h = prepare(buffers, rest, g.inflight, pm, log);
     OutArmedTwo {
-        packets: rest,
+        packets: h.packets,
         inflight: h.inflight,
-        first: first,
-        second: second,
-        writes: h.writes,
+        first: g.arm,
+        second: h.arm,
     }
 }

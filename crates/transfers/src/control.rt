@@ -1,25 +1,28 @@
 // The driver's calls on the control pipe: begin, step and cancel.
 ghost use Rattle.std.specs.Prelude.{◌≡◌, true, false};
 ghost use Rattle.transfers.specs.Calls.{step_of, cancel_of, begin_control_of, begin_bulk_in_of, begin_bulk_out_of};
-ghost use Rattle.transfers.specs.Driver.{fresh, with_transfer, toggle_by_rule, DidBegin, DidStep, dropped};
+ghost use Rattle.transfers.specs.Driver.{fresh, toggle_by_rule, begun_from, stepped_from, DidBegin, DidStep, dropped};
 ghost use Rattle.transfers.specs.Reply.{begin_reply, step_reply, cancel_reply};
 ghost use Rattle.transfers.specs.Rows.{control_row, bulk_row, step_row_of, cancel_row};
 
-use crate::answers::{Armed, BeginAnswer, CancelAnswer, OptionEntries, StepAnswer};
-use crate::driver::{DeskRule, Driver, Transfer};
+use crate::answers::{Armed, Step};
+use crate::driver::{DeskRule, Driver, Run};
 use crate::entries::{
     entries_begun, entries_cancelled, entries_stepped, failed_cancel, failed_step,
 };
 use crate::host_controller::{DataPhase, DeviceStatus, TransferExtras};
 use crate::pipes::fresh_pipes;
+use crate::progress::Progress;
+use crate::refusal::Refusal;
 use crate::sample::Sample;
 use crate::wire::SetupPacket;
 use cutting::transfer_type::TransferType;
 
+// What a begin leaves of the driver, or of its transfer alone.
 #[derive(Clone, Copy)]
-pub struct Begun {
-    pub next: Driver,
-    pub answer: BeginAnswer,
+pub struct Begun<S = Driver> {
+    pub next: S,
+    pub answer: Result<(), Refusal>,
     pub armed: Armed,
     pub writes: usize,
 }
@@ -28,34 +31,19 @@ pub struct Begun {
 #[derive(Clone, Copy)]
 pub struct Stepped {
     pub next: Driver,
-    pub answer: StepAnswer,
+    pub answer: Result<Step, Refusal>,
     pub toggle: bool,
     pub armed: Armed,
-    pub failed: OptionEntries,
+    pub failed: Option<u32>,
     pub writes: usize,
 }
 
 #[derive(Clone, Copy)]
 pub struct Dropped {
     pub next: Driver,
-    pub answer: CancelAnswer,
+    pub answer: Result<(), Refusal>,
     pub toggle: bool,
-    pub failed: OptionEntries,
-}
-
-fn with_transfer(d: Driver, t: Transfer, entries: u32) -> Driver
-    ensures { result ≡ with_transfer d t entries }
-{
-    let pipes = d.pipes;
-    let last = d.last;
-    let rule = d.rule;
-    Driver {
-        transfer: t,
-        entries: entries,
-        pipes: pipes,
-        last: last,
-        rule: rule,
-    }
+    pub failed: Option<u32>,
 }
 
 // The toggle of a step or cancel, by the desk rule.
@@ -73,17 +61,18 @@ impl Driver {
         ensures { result ≡ fresh rule }
     {
         Driver {
-            transfer: Transfer::Idle,
+            transfer: None,
             entries: 0,
             pipes: fresh_pipes(),
             last: DeviceStatus::Absent,
-            rule: rule,
+            rule,
         }
     }
 
     // `control_transfer` up to its first poll. The buffer is the one to be filled or sent; None has no use for it.
+    #[tactic(auto, using(crate::proofs::Replies::control_row_lem))]
     pub fn begin_control(
-        mut self,
+        self,
         address: u8,
         extras: TransferExtras,
         size: u8,
@@ -96,24 +85,24 @@ impl Driver {
         ensures { DidBegin self (begin_control_of self.transfer address extras size setup phase buf.now pm.now log.old) log.old result pm.now log.new
             × (begin_reply result.answer ≡ control_row self.transfer address size pm.now log.old) }
     {
-        let t = self.transfer;
-        let b = crate::begin::begin_control(t, address, extras, size, setup, phase, buf, pm, log);
-        let next = b.next;
-        let answer = b.answer;
-        let armed = b.armed;
-        let entries = entries_begun(answer, self.entries, armed);
-        self = with_transfer(self, next, entries);
-        Begun {
-            next: self,
-            answer: answer,
-            armed: armed,
-            writes: b.writes,
-        }
+        let b = crate::begin::begin_control(
+            self.transfer,
+            address,
+            extras,
+            size,
+            setup,
+            phase,
+            buf,
+            pm,
+            log,
+        );
+        self.begun(b)
     }
 
-    // `bulk_in_transfer` up to its first poll.
+    // `bulk_in_transfer` up to its first poll. IN and OUT are calls of their own, here and of steps, as in the Rust and in docs/GLUE.md: two lines each over what they share.
+    #[tactic(auto, using(crate::proofs::Replies::bulk_in_row))]
     pub fn begin_bulk_in(
-        mut self,
+        self,
         address: u8,
         endpoint: u8,
         size: u16,
@@ -126,24 +115,24 @@ impl Driver {
         ensures { DidBegin self (begin_bulk_in_of self.transfer address endpoint size kind toggle buf.now pm.now log.old) log.old result pm.now log.new
             × (begin_reply result.answer ≡ bulk_row self.transfer address endpoint size buf.now pm.now log.old) }
     {
-        let t = self.transfer;
-        let b = crate::begin::begin_bulk_in(t, address, endpoint, size, kind, toggle, buf, pm, log);
-        let next = b.next;
-        let answer = b.answer;
-        let armed = b.armed;
-        let entries = entries_begun(answer, self.entries, armed);
-        self = with_transfer(self, next, entries);
-        Begun {
-            next: self,
-            answer: answer,
-            armed: armed,
-            writes: b.writes,
-        }
+        let b = crate::begin::begin_bulk_in(
+            self.transfer,
+            address,
+            endpoint,
+            size,
+            kind,
+            toggle,
+            buf,
+            pm,
+            log,
+        );
+        self.begun(b)
     }
 
     // `bulk_out_transfer` up to its first poll.
+    #[tactic(auto, using(crate::proofs::Replies::bulk_out_row))]
     pub fn begin_bulk_out(
-        mut self,
+        self,
         address: u8,
         endpoint: u8,
         size: u16,
@@ -156,95 +145,92 @@ impl Driver {
         ensures { DidBegin self (begin_bulk_out_of self.transfer address endpoint size kind toggle buf.now pm.old log.old) log.old result pm.new log.new
             × (begin_reply result.answer ≡ bulk_row self.transfer address endpoint size buf.now pm.old log.old) }
     {
-        let t = self.transfer;
         let b = crate::begin::begin_bulk_out(
-            t, address, endpoint, size, kind, toggle, buf, pm, log,
+            self.transfer,
+            address,
+            endpoint,
+            size,
+            kind,
+            toggle,
+            buf,
+            pm,
+            log,
         );
-        let next = b.next;
-        let answer = b.answer;
-        let armed = b.armed;
-        let entries = entries_begun(answer, self.entries, armed);
-        self = with_transfer(self, next, entries);
-        Begun {
-            next: self,
-            answer: answer,
-            armed: armed,
-            writes: b.writes,
-        }
+        self.begun(b)
     }
 
     // A step of bulk IN, control In or None: the buffer is filled.
-    pub fn step_in(
-        mut self,
-        sample: Sample,
-        buf: &mut [u8],
-        pm: &mut [u8],
-        log: &mut [u32],
-    ) -> Stepped
+    #[tactic(auto, using(crate::proofs::Telling::lifted, crate::proofs::Replies::step_row))]
+    pub fn step_in(self, sample: Sample, buf: &mut [u8], pm: &mut [u8], log: &mut [u32]) -> Stepped
         ensures { DidStep self (step_of true self.transfer sample buf.old pm.old log.old) log.old result pm.new log.new
             × (buf.new ≡ (step_of true self.transfer sample buf.old pm.old log.old).buffer)
             × (step_reply result.answer ≡ step_row_of true self.transfer sample buf.old pm.old log.old) }
     {
-        let rule = self.rule;
-        let t = self.transfer;
-        let p = crate::step::step_in(t, sample, buf, pm, log);
-        let next = p.next;
-        let answer = p.answer;
-        let armed = p.armed;
-        let failed = failed_step(answer, self.entries);
-        let entries = entries_stepped(answer, self.entries, armed);
-        self = with_transfer(self, next, entries);
-        Stepped {
-            next: self,
-            answer: answer,
-            toggle: toggle_by_rule(rule, p.toggle, p.moved),
-            armed: armed,
-            failed: failed,
-            writes: p.writes,
-        }
+        let (p, writes) = crate::step::step_in(self.transfer, sample, buf, pm, log);
+        self.stepped(p, writes)
     }
 
     // A step of bulk OUT or control Out: the buffer is sent.
-    pub fn step_out(mut self, sample: Sample, buf: &[u8], pm: &mut [u8], log: &mut [u32]) -> Stepped
+    #[tactic(auto, using(crate::proofs::Telling::lifted, crate::proofs::Replies::step_row))]
+    pub fn step_out(self, sample: Sample, buf: &[u8], pm: &mut [u8], log: &mut [u32]) -> Stepped
         ensures { DidStep self (step_of false self.transfer sample buf.now pm.old log.old) log.old result pm.new log.new
             × (step_reply result.answer ≡ step_row_of false self.transfer sample buf.now pm.old log.old) }
     {
-        let rule = self.rule;
-        let t = self.transfer;
-        let p = crate::step::step_out(t, sample, buf, pm, log);
-        let next = p.next;
-        let answer = p.answer;
-        let armed = p.armed;
-        let failed = failed_step(answer, self.entries);
-        let entries = entries_stepped(answer, self.entries, armed);
-        self = with_transfer(self, next, entries);
-        Stepped {
-            next: self,
-            answer: answer,
-            toggle: toggle_by_rule(rule, p.toggle, p.moved),
-            armed: armed,
-            failed: failed,
-            writes: p.writes,
-        }
+        let (p, writes) = crate::step::step_out(self.transfer, sample, buf, pm, log);
+        self.stepped(p, writes)
     }
 
     // The Rust's dropping the future.
-    pub fn cancel(mut self) -> Dropped
+    #[tactic(auto, using(crate::proofs::Replies::cancel_row_lem))]
+    pub fn cancel(self) -> Dropped
         ensures { (result ≡ dropped self (cancel_of self.transfer)) × (cancel_reply result.answer ≡ cancel_row self.transfer) }
     {
-        let rule = self.rule;
-        let t = self.transfer;
-        let c = crate::begin::cancel(t);
-        let next = c.next;
-        let answer = c.answer;
-        let failed = failed_cancel(answer, self.entries);
-        let entries = entries_cancelled(answer, self.entries);
-        self = with_transfer(self, next, entries);
+        let c = crate::begin::cancel(self.transfer);
         Dropped {
-            next: self,
-            answer: answer,
-            toggle: toggle_by_rule(rule, c.toggle, c.moved),
-            failed: failed,
+            next: Driver {
+                transfer: c.next,
+                entries: entries_cancelled(c.answer, self.entries),
+                ..self
+            },
+            answer: c.answer,
+            toggle: toggle_by_rule(self.rule, c.toggle, c.moved),
+            failed: failed_cancel(c.answer, self.entries),
+        }
+    }
+
+    // What a begin hands back, from what it did to the transfer.
+    #[inline(always)]
+    fn begun(self, b: Begun<Option<Run>>) -> Begun
+        ensures { result ≡ begun_from self b }
+    {
+        Begun {
+            next: Driver {
+                transfer: b.next,
+                entries: entries_begun(b.answer, self.entries, b.armed),
+                ..self
+            },
+            answer: b.answer,
+            armed: b.armed,
+            writes: b.writes,
+        }
+    }
+
+    // What a step hands back.
+    #[inline(always)]
+    fn stepped(self, p: Progress, writes: usize) -> Stepped
+        ensures { result ≡ stepped_from self p writes }
+    {
+        Stepped {
+            next: Driver {
+                transfer: p.next,
+                entries: entries_stepped(p.answer, self.entries, p.armed),
+                ..self
+            },
+            answer: p.answer,
+            toggle: toggle_by_rule(self.rule, p.toggle, p.moved),
+            armed: p.armed,
+            failed: failed_step(p.answer, self.entries),
+            writes,
         }
     }
 }

@@ -10,21 +10,15 @@ pub enum DeskRule {
     Two,
 }
 
+// `transfer` is the one under way on the control pipe, if any.
 // `entries` is how many entries of the wire record the transfer under way has armed.
 #[derive(Clone, Copy)]
 pub struct Driver {
-    pub transfer: Transfer,
+    pub transfer: Option<Run>,
     pub rule: DeskRule,
     pub entries: u32,
     pub pipes: Pipes,
     pub last: DeviceStatus,
-}
-
-// The control pipe: nothing under way, or a transfer.
-#[derive(Clone, Copy)]
-pub enum Transfer {
-    Idle,
-    Busy(Run),
 }
 
 // A transfer under way: what its begin asked for, and the stage that it is in.
@@ -84,7 +78,7 @@ pub struct InStage {
     pub inflight: u8,
 }
 
-// `slot`, `remain`, `offset` and `zlp` are the packetiser's, `retire` the depacketiser's.
+// `slot`, `remain`, `offset` and `zlp` are the packetiser's, `retire` the depacketiser's. What each direction counts differs, and the definitions `in_packets` and `out_packets` name the fields.
 // `received` is the data stage's count, kept through the status stage.
 #[derive(Clone, Copy)]
 pub struct OutStage {

@@ -1,7 +1,10 @@
 // Packet memory and the caller's buffer: what is lent, where a slot lies, and the copies.
 ghost use Rattle.std.specs.Prelude.{◌≡◌, ◌+◌, ◌<◌, ◌≤◌, length, take, drop};
 ghost use Rattle.std.proofs.lemmas.List.Edits.{sets};
-ghost use Rattle.transfers.specs.Memory.{MemoryFits, log_fits, lent_fits, slot_address};
+ghost use Rattle.transfers.specs.Memory.{log_fits, lent_fits, slot_address};
+
+// Packet memory: what is lent is taken as this once its length is checked.
+pub(crate) type PacketMemory = [u8; 4096];
 
 pub(crate) fn log_fits(log: &[u32]) -> bool
     ensures { result ≡ log_fits log.now }
@@ -12,11 +15,7 @@ pub(crate) fn log_fits(log: &[u32]) -> bool
 pub fn lent_fits(pm: &[u8], log: &[u32]) -> bool
     ensures { result ≡ lent_fits pm.now log.now }
 {
-    if pm.len() == 4096 {
-        log_fits(log)
-    } else {
-        false
-    }
+    pm.len() == 4096 && log_fits(log)
 }
 
 // The address of a slot in packet memory.
@@ -26,30 +25,20 @@ pub fn slot_address(slot: bool) -> usize
     0x180 + 64 * slot as usize
 }
 
-// The first n bytes of src go into dst from at on.
-fn copy(dst: &mut [u8], at: usize, src: &[u8], n: usize)
-    requires { (n ≤ length src.now) × (at + n ≤ length dst.old) }
-    ensures { dst.new ≡ sets dst.old at (take n src.now) }
-{
-    for i in 0..n {
-        dst[at + i] = src[i];
-    }
-}
-
 // A packet's bytes, the first n of a part of the caller's buffer, go into a slot.
-pub(crate) fn fill_slot(pm: &mut [u8], slot: bool, part: &[u8], n: usize)
-    requires { (n ≤ 64) × (n ≤ length part.now) × MemoryFits pm.old }
+pub(crate) fn fill_slot(pm: &mut PacketMemory, slot: bool, part: &[u8], n: usize)
+    requires { (n ≤ 64) × (n ≤ length part.now) }
     ensures { pm.new ≡ sets pm.old (slot_address slot) (take n part.now) }
 {
     let at = slot_address(slot);
-    copy(pm, at, part, n);
+    pm[at..at + n].copy_from_slice(&part[..n]);
 }
 
 // The first n bytes of a slot go into the caller's buffer from an offset on.
-pub(crate) fn take_slot(buf: &mut [u8], offset: usize, pm: &[u8], slot: bool, n: usize)
-    requires { (n ≤ 64) × (offset + n ≤ length buf.old) × MemoryFits pm.now }
+pub(crate) fn take_slot(buf: &mut [u8], offset: usize, pm: &PacketMemory, slot: bool, n: usize)
+    requires { (n ≤ 64) × (offset + n ≤ length buf.old) }
     ensures { buf.new ≡ sets buf.old offset (take n (drop (slot_address slot) pm.now)) }
 {
     let at = slot_address(slot);
-    copy(buf, offset, &pm[at..], n);
+    buf[offset..offset + n].copy_from_slice(&pm[at..at + n]);
 }

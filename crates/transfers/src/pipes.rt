@@ -1,23 +1,23 @@
 // The interrupt pipes: open, close and poll.
 ghost use Rattle.std.specs.Prelude.{◌≡◌, ◌+◌, ◌*◌, ◌^◌, ◌<◌, ◌≤◌, length};
 ghost use Rattle.pool.specs.Pipe.{Counted};
-ghost use Rattle.transfers.specs.Log.{Wrote};
+ghost use Rattle.transfers.specs.Puts.{Puts};
 ghost use Rattle.transfers.specs.Reply.{open_reply, close_reply, poll_reply};
 ghost use Rattle.transfers.specs.Rows.{open_row_of, close_row_of, poll_row};
 ghost use Rattle.transfers.specs.Pipes.{fresh_pipes, pool_of, pipe_area, arm_pipe, poll_interval, open_writes, open_free, opening_pipe, opening, DidOpen, index_open, closing_pipe, closing, packet_size, packet_data, packet_of, no_packet, wait_writes, poll_full, polling_pipe, polling, DidPoll};
-ghost use Rattle.transfers.specs.Memory.{LogFits, MemoryFits};
+ghost use Rattle.transfers.specs.Memory.{LogFits};
 
 use crate::driver::{Driver, Pipe, Pipes};
 use crate::host_controller::{InterruptPacket, TransferExtras, UsbError};
-use crate::log::{put, put_delay};
-use crate::memory::{lent_fits, log_fits};
+use crate::log::Log;
+use crate::memory::{PacketMemory, lent_fits, log_fits};
 use crate::refusal::Refusal;
 use crate::registers::*;
 use crate::state::{endpoint_good, size_good};
 use crate::writes::{preamble, weight};
-use pool::async_pool::{OptionIndex, Pool, PoolIndex};
+use pool::async_pool::{Pool, PoolIndex};
 use pool::bitset::BitSet;
-use pool::pipe::{OptionPipe, PipeNumber};
+use pool::pipe::PipeNumber;
 
 // EP_BUFFER_CONTROL and HOST_ADDR_ENDP of a pipe, as read.
 #[derive(Clone, Copy)]
@@ -26,64 +26,32 @@ pub struct PipeSample {
     pub address: u32,
 }
 
+// What a call leaves of the driver, or of its pipes alone.
 #[derive(Clone, Copy)]
-pub enum OpenAnswer {
-    Pipe(PipeNumber),
-    Refused(Refusal),
-}
-
-#[derive(Clone, Copy)]
-pub struct Opened {
-    pub next: Driver,
-    pub answer: OpenAnswer,
+pub struct Opened<S = Driver> {
+    pub next: S,
+    pub answer: Result<PipeNumber, Refusal>,
     pub writes: usize,
 }
 
 #[derive(Clone, Copy)]
-pub enum CloseAnswer {
-    Closed,
-    Refused(Refusal),
+pub struct Closed<S = Driver> {
+    pub next: S,
+    pub answer: Result<(), Refusal>,
 }
 
+// What a poll finds.
 #[derive(Clone, Copy)]
-pub struct Closed {
-    pub next: Driver,
-    pub answer: CloseAnswer,
-}
-
-#[derive(Clone, Copy)]
-pub enum PollAnswer {
+pub enum Poll {
     Packet,
     Waiting,
-    Refused(Refusal),
 }
 
-// `packet` is all zeros where the answer is no packet.
+// `packet` is all zeros where the answer is no packet: the definition `polling` has one beside every answer.
 #[derive(Clone, Copy)]
-pub struct Polled {
-    pub next: Driver,
-    pub answer: PollAnswer,
-    pub packet: InterruptPacket,
-    pub writes: usize,
-}
-
-#[derive(Clone, Copy)]
-struct PipesOpened {
-    pub next: Pipes,
-    pub answer: OpenAnswer,
-    pub writes: usize,
-}
-
-#[derive(Clone, Copy)]
-struct PipesClosed {
-    pub next: Pipes,
-    pub answer: CloseAnswer,
-}
-
-#[derive(Clone, Copy)]
-struct PipesPolled {
-    pub next: Pipes,
-    pub answer: PollAnswer,
+pub struct Polled<S = Driver> {
+    pub next: S,
+    pub answer: Result<Poll, Refusal>,
     pub packet: InterruptPacket,
     pub writes: usize,
 }
@@ -117,15 +85,15 @@ fn pipe_area(n: u32) -> u32
     0x200 + 128 * n
 }
 
-fn arm_pipe(log: &mut [u32], k: usize, n: u32, toggle: bool, size: u32) -> usize
-    requires { (k ≤ 61) × LogFits log.old × (n ≤ 15) × (size < 256) }
-    ensures { Wrote log.old k (arm_pipe n toggle size) log.new result }
+fn arm_pipe(log: &mut Log<'_>, n: u32, toggle: bool, size: u32)
+    requires { (log.old.used ≤ 61) × (n ≤ 15) × (size < 256) }
+    ensures { Puts log.old (arm_pipe n toggle size) log.new }
 {
     let register = EP_BUFFER_CONTROL + 8 * n;
     let value = LAST + weight(toggle, PID) + size;
-    let k = put(log, k, register, ALL, value);
-    let k = put_delay(log, k);
-    put(log, k, register, AVAILABLE, AVAILABLE)
+    log.put(register, ALL, value);
+    log.put_delay();
+    log.put(register, AVAILABLE, AVAILABLE);
 }
 
 const MAX_POLL_INTERVAL: u8 = 9;
@@ -133,45 +101,42 @@ const MAX_POLL_INTERVAL: u8 = 9;
 fn poll_interval(interval: u8) -> u8
     ensures { result ≡ poll_interval interval }
 {
-    if interval < MAX_POLL_INTERVAL {
-        interval
-    } else {
-        MAX_POLL_INTERVAL
-    }
+    interval.min(MAX_POLL_INTERVAL)
 }
 
 fn put_open(
-    log: &mut [u32],
+    log: &mut Log<'_>,
     pipe: PipeNumber,
     address: u8,
     extras: TransferExtras,
     endpoint: u8,
     size: u8,
     interval: u8,
-) -> usize
-    requires { LogFits log.old × (pipe.0 ≤ 15) × (address ≤ 127) × (endpoint ≤ 15) }
-    ensures { Wrote log.old 0 (open_writes pipe.0 address extras endpoint size interval) log.new result }
+)
+    requires { (log.old.used ≤ 59) × (pipe.0 ≤ 15) × (address ≤ 127) × (endpoint ≤ 15) }
+    ensures { Puts log.old (open_writes pipe.0 address extras endpoint size interval) log.new }
 {
     let n = pipe.0 as u32;
     let target = address as u32
         + endpoint as u32 * 0x1_0000
         + weight(preamble(extras), INTEP_PREAMBLE);
     let control = PIPE_ENABLED + poll_interval(interval) as u32 * 0x1_0000 + pipe_area(n);
-    let k = put(log, 0, ADDR_ENDP + 4 * n, ALL, target);
-    let k = put(log, k, EP_CONTROL + 8 * n, ALL, control);
-    arm_pipe(log, k, n, false, size as u32)
+    log.put(ADDR_ENDP + 4 * n, ALL, target);
+    log.put(EP_CONTROL + 8 * n, ALL, control);
+    arm_pipe(log, n, false, size as u32);
 }
 
-fn refuse_open(pipes: Pipes, why: Refusal) -> PipesOpened
-    ensures { (result.next ≡ pipes) × (result.answer ≡ OpenAnswer.Refused why) × (result.writes ≡ 0) }
+fn refuse_open(pipes: Pipes, why: Refusal) -> Opened<Pipes>
+    ensures { (result.next ≡ pipes) × (result.answer ≡ Err why) × (result.writes ≡ 0) }
 {
-    PipesOpened {
+    Opened {
         next: pipes,
-        answer: OpenAnswer::Refused(why),
+        answer: Err(why),
         writes: 0,
     }
 }
 
+#[tactic(auto, unfolding(crate::specs::Pipes::open_free))]
 fn open_free(
     mut pipes: Pipes,
     address: u8,
@@ -180,37 +145,35 @@ fn open_free(
     size: u8,
     interval: u8,
     log: &mut [u32],
-) -> PipesOpened
+) -> Opened<Pipes>
     requires { LogFits log.old × (address ≤ 127) × (endpoint ≤ 15) }
     ensures { DidOpen (open_free pipes address extras endpoint size interval) result.next result.answer result.writes log.old log.new }
 {
-    let opened = pipes.opened;
-    let pool = pool_of(opened);
-    let taken = pool.alloc();
-    let index = taken.index;
-    let OptionIndex::Some(at) = index else {
+    let taken = pool_of(pipes.opened).alloc();
+    let Some(at) = taken.index else {
         return refuse_open(pipes, Refusal::Usb(UsbError::TooManyDevices));
     };
-    let number = at.pipe();
-    let OptionPipe::Some(n) = number else {
+    let Some(n) = at.pipe() else {
         return refuse_open(pipes, Refusal::Usb(UsbError::TooManyDevices));
     };
-    let writes = put_open(log, n, address, extras, endpoint, size, interval);
-    let left = taken.pool;
-    let opened = left.allocated;
-    let i = at.0 as usize;
-    pipes.opened = opened;
-    pipes.each[i] = Pipe {
+    let mut log = Log {
+        words: log,
+        used: 0,
+    };
+    put_open(&mut log, n, address, extras, endpoint, size, interval);
+    pipes.opened = taken.pool.allocated;
+    pipes.each[at.0 as usize] = Pipe {
         size,
         toggle: false,
     };
-    PipesOpened {
+    Opened {
         next: pipes,
-        answer: OpenAnswer::Pipe(n),
-        writes,
+        answer: Ok(n),
+        writes: log.used,
     }
 }
 
+#[tactic(auto, unfolding(crate::specs::Pipes::opening_pipe))]
 fn open_pipe(
     pipes: Pipes,
     address: u8,
@@ -219,7 +182,7 @@ fn open_pipe(
     size: u16,
     interval: u8,
     log: &mut [u32],
-) -> PipesOpened
+) -> Opened<Pipes>
     ensures { DidOpen (opening_pipe pipes address extras endpoint size interval log.old) result.next result.answer result.writes log.old log.new }
 {
     if !log_fits(log) {
@@ -238,39 +201,27 @@ fn open_pipe(
 }
 
 // The index of a pipe that is open.
-fn index_open(opened: BitSet, pipe: PipeNumber) -> OptionIndex
+#[tactic(auto, unfolding(crate::specs::Pipes::index_open))]
+fn index_open(opened: BitSet, pipe: PipeNumber) -> Option<PoolIndex>
     ensures { result ≡ index_open opened pipe }
 {
-    let index = pipe.index();
-    let OptionIndex::Some(at) = index else {
-        return OptionIndex::None;
-    };
-    if opened.contains(at.0) {
-        OptionIndex::Some(at)
-    } else {
-        OptionIndex::None
-    }
+    pipe.index().filter(|at| opened.contains(at.0))
 }
 
-fn close_pipe(mut pipes: Pipes, pipe: PipeNumber) -> PipesClosed
+#[tactic(auto, unfolding(crate::specs::Pipes::closing_pipe))]
+fn close_pipe(mut pipes: Pipes, pipe: PipeNumber) -> Closed<Pipes>
     ensures { result ≡ closing_pipe pipes pipe }
 {
-    let opened = pipes.opened;
-    let index = index_open(opened, pipe);
-    let OptionIndex::Some(at) = index else {
-        return PipesClosed {
+    let Some(at) = index_open(pipes.opened, pipe) else {
+        return Closed {
             next: pipes,
-            answer: CloseAnswer::Refused(Refusal::PipeNotOpen),
+            answer: Err(Refusal::PipeNotOpen),
         };
     };
-    let pool = pool_of(opened);
-    let freed = pool.free(at);
-    let left = freed.pool;
-    let opened = left.allocated;
-    pipes.opened = opened;
-    PipesClosed {
+    pipes.opened = pool_of(pipes.opened).free(at).pool.allocated;
+    Closed {
         next: pipes,
-        answer: CloseAnswer::Closed,
+        answer: Ok(()),
     }
 }
 
@@ -286,27 +237,25 @@ fn no_packet() -> InterruptPacket
 }
 
 // The first k bytes of a pipe's area, then zeros.
-fn packet_data(pm: &[u8], n: u32, k: u8) -> [u8; 64]
-    requires { MemoryFits pm.now × (n ≤ 15) × (k ≤ 64) }
+fn packet_data(pm: &PacketMemory, n: u32, k: u8) -> [u8; 64]
+    requires { (n ≤ 15) × (k ≤ 64) }
     ensures { result ≡ packet_data pm.now n k }
 {
     let area = pipe_area(n) as usize;
+    let k = k as usize;
     let mut data = [0u8; 64];
-    for i in 0..k as usize {
-        data[i] = pm[area + i];
-    }
+    data[..k].copy_from_slice(&pm[area..area + k]);
     data
 }
 
 fn packet_size(buffer: u32) -> u8
     ensures { (result ≡ packet_size buffer) × (result ≤ 64) }
 {
-    let length = buffer % 0x400;
-    if length < 64 { length as u8 } else { 64 }
+    (buffer % 0x400).min(64) as u8
 }
 
-fn packet_of(n: u32, sample: PipeSample, pm: &[u8]) -> InterruptPacket
-    requires { (n ≤ 15) × MemoryFits pm.now }
+fn packet_of(n: u32, sample: PipeSample, pm: &PacketMemory) -> InterruptPacket
+    requires { (n ≤ 15) }
     ensures { result ≡ packet_of n sample pm.now }
 {
     let size = packet_size(sample.buffer);
@@ -326,37 +275,38 @@ fn pipe_bit(n: u32) -> u32
     1u32 << n
 }
 
-fn put_wait(log: &mut [u32], n: u32) -> usize
-    requires { LogFits log.old × (n ≤ 15) }
-    ensures { Wrote log.old 0 (wait_writes n) log.new result }
+fn put_wait(log: &mut Log<'_>, n: u32)
+    requires { (log.old.used ≤ 61) × (n ≤ 15) }
+    ensures { Puts log.old (wait_writes n) log.new }
 {
     let bit = pipe_bit(n);
     let status = 3 * pipe_bit(2 * n);
-    let k = put(log, 0, INTE, BUFF_STATUS_MASK, BUFF_STATUS_MASK);
-    let k = put(log, k, INT_EP_CTRL, bit, bit);
-    put(log, k, EP_STATUS_STALL_NAK, ALL, status)
+    log.put(INTE, BUFF_STATUS_MASK, BUFF_STATUS_MASK);
+    log.put(INT_EP_CTRL, bit, bit);
+    log.put(EP_STATUS_STALL_NAK, ALL, status);
 }
 
-fn refuse_poll(pipes: Pipes, why: Refusal) -> PipesPolled
-    ensures { (result.next ≡ pipes) × (result.answer ≡ PollAnswer.Refused why) × (result.packet ≡ no_packet) × (result.writes ≡ 0) }
+fn refuse_poll(pipes: Pipes, why: Refusal) -> Polled<Pipes>
+    ensures { (result.next ≡ pipes) × (result.answer ≡ Err why) × (result.packet ≡ no_packet) × (result.writes ≡ 0) }
 {
-    PipesPolled {
+    Polled {
         next: pipes,
-        answer: PollAnswer::Refused(why),
+        answer: Err(why),
         packet: no_packet(),
         writes: 0,
     }
 }
 
+#[tactic(auto, unfolding(crate::specs::Pipes::poll_full))]
 fn poll_full(
     mut pipes: Pipes,
     at: PoolIndex,
     pipe: PipeNumber,
     sample: PipeSample,
-    pm: &[u8],
+    pm: &PacketMemory,
     log: &mut [u32],
-) -> PipesPolled
-    requires { MemoryFits pm.now × LogFits log.old × Counted at pipe }
+) -> Polled<Pipes>
+    requires { LogFits log.old × Counted at pipe }
     ensures { DidPoll (poll_full at pipes pipe sample pm.now) result.next result.answer result.packet result.writes log.old log.new }
 {
     let n = pipe.0 as u32;
@@ -364,51 +314,56 @@ fn poll_full(
     let packet = packet_of(n, sample, pm);
     let held = pipes.each[i];
     let toggle = !held.toggle;
-    let writes = arm_pipe(log, 0, n, toggle, held.size as u32);
-    pipes.each[i] = Pipe {
-        size: held.size,
-        toggle,
+    let mut log = Log {
+        words: log,
+        used: 0,
     };
-    PipesPolled {
+    arm_pipe(&mut log, n, toggle, held.size as u32);
+    pipes.each[i] = Pipe { toggle, ..held };
+    Polled {
         next: pipes,
-        answer: PollAnswer::Packet,
+        answer: Ok(Poll::Packet),
         packet,
-        writes,
+        writes: log.used,
     }
 }
 
+#[tactic(auto, unfolding(crate::specs::Pipes::polling_pipe))]
 fn poll_pipe(
     pipes: Pipes,
     pipe: PipeNumber,
     sample: PipeSample,
     pm: &[u8],
     log: &mut [u32],
-) -> PipesPolled
+) -> Polled<Pipes>
     ensures { DidPoll (polling_pipe pipes pipe sample pm.now log.old) result.next result.answer result.packet result.writes log.old log.new }
 {
     if !lent_fits(pm, log) {
         return refuse_poll(pipes, Refusal::LentMemory);
     }
-    let opened = pipes.opened;
-    let index = index_open(opened, pipe);
-    let OptionIndex::Some(at) = index else {
+    let Some(at) = index_open(pipes.opened, pipe) else {
         return refuse_poll(pipes, Refusal::PipeNotOpen);
     };
     if bit(sample.buffer, 15) {
-        return poll_full(pipes, at, pipe, sample, pm, log);
+        return poll_full(pipes, at, pipe, sample, pm.as_array().unwrap(), log);
     }
-    let writes = put_wait(log, pipe.0 as u32);
-    PipesPolled {
+    let mut log = Log {
+        words: log,
+        used: 0,
+    };
+    put_wait(&mut log, pipe.0 as u32);
+    Polled {
         next: pipes,
-        answer: PollAnswer::Waiting,
+        answer: Ok(Poll::Waiting),
         packet: no_packet(),
-        writes,
+        writes: log.used,
     }
 }
 
 impl Driver {
+    #[tactic(auto, using(crate::proofs::PipeReplies::open_row))]
     pub fn open(
-        mut self,
+        self,
         address: u8,
         extras: TransferExtras,
         endpoint: u8,
@@ -419,49 +374,44 @@ impl Driver {
         ensures { DidOpen (opening self address extras endpoint size interval log.old) result.next result.answer result.writes log.old log.new
             × (open_reply result.answer ≡ open_row_of self.pipes.opened.0 address endpoint size log.old) }
     {
-        let pipes = self.pipes;
-        let o = open_pipe(pipes, address, extras, endpoint, size, interval, log);
-        let next = o.next;
-        let answer = o.answer;
-        self.pipes = next;
+        let o = open_pipe(self.pipes, address, extras, endpoint, size, interval, log);
         Opened {
-            next: self,
-            answer,
+            next: Driver {
+                pipes: o.next,
+                ..self
+            },
+            answer: o.answer,
             writes: o.writes,
         }
     }
 
-    pub fn close(mut self, pipe: PipeNumber) -> Closed
+    #[tactic(auto, using(crate::proofs::PipeReplies::close_row))]
+    pub fn close(self, pipe: PipeNumber) -> Closed
         ensures { (result ≡ closing self pipe) × (close_reply result.answer ≡ close_row_of self.pipes.opened.0 pipe.0) }
     {
-        let pipes = self.pipes;
-        let c = close_pipe(pipes, pipe);
-        let next = c.next;
-        let answer = c.answer;
-        self.pipes = next;
-        Closed { next: self, answer }
+        let c = close_pipe(self.pipes, pipe);
+        Closed {
+            next: Driver {
+                pipes: c.next,
+                ..self
+            },
+            answer: c.answer,
+        }
     }
 
-    pub fn poll(
-        mut self,
-        pipe: PipeNumber,
-        sample: PipeSample,
-        pm: &[u8],
-        log: &mut [u32],
-    ) -> Polled
+    #[tactic(auto, using(crate::proofs::PipeReplies::poll_row_lem))]
+    pub fn poll(self, pipe: PipeNumber, sample: PipeSample, pm: &[u8], log: &mut [u32]) -> Polled
         ensures { DidPoll (polling self pipe sample pm.now log.old) result.next result.answer result.packet result.writes log.old log.new
             × (poll_reply result.answer ≡ poll_row self.pipes.opened.0 pipe.0 sample.buffer pm.now log.old) }
     {
-        let pipes = self.pipes;
-        let p = poll_pipe(pipes, pipe, sample, pm, log);
-        let next = p.next;
-        let answer = p.answer;
-        let packet = p.packet;
-        self.pipes = next;
+        let p = poll_pipe(self.pipes, pipe, sample, pm, log);
         Polled {
-            next: self,
-            answer,
-            packet,
+            next: Driver {
+                pipes: p.next,
+                ..self
+            },
+            answer: p.answer,
+            packet: p.packet,
             writes: p.writes,
         }
     }

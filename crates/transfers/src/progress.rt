@@ -5,50 +5,43 @@ ghost use Rattle.transfers.specs.State.{first_pid, target_of, stage_length};
 ghost use Rattle.transfers.specs.Outcome.{toggle_in, flipped, toggle_out, ended, failed, waits, start_in, start_out, enters_in, enters_out};
 ghost use Rattle.transfers.specs.Acts.{told, Tells, Moves};
 ghost use Rattle.transfers.specs.Starts.{StartsIn, StartsOut};
-ghost use Rattle.transfers.specs.Memory.{LogFits, MemoryFits};
 
-use crate::answers::{Armed, OptionOut, OptionSetup, StepAnswer, out_of};
+use crate::answers::{Armed, Step, out_of};
 use crate::arming::{in_arm_two, out_arm_two};
-use crate::driver::{InStage, Kind, OutStage, Request, Run, Stage, Transfer};
+use crate::driver::{InStage, Kind, OutStage, Request, Run, Stage};
 use crate::host_controller::UsbError;
+use crate::log::Log;
+use crate::memory::PacketMemory;
 use crate::refusal::Refusal;
 use crate::wire::Direction;
 use crate::writes::{Target, put_enable, put_go, put_head};
-use cutting::packetiser::{InPacketiser, OptionArm, OutCounters};
+use cutting::packetiser::{Arm, InPacketiser, OutCounters, OutPacketiser};
 use cutting::transfer_type::TransferType;
 
 // `toggle` is what desk rule 1 hands out, `moved` what rule 2 does.
 #[derive(Clone, Copy)]
 pub struct Progress {
-    pub next: Transfer,
-    pub answer: StepAnswer,
+    pub next: Option<Run>,
+    pub answer: Result<Step, Refusal>,
     pub toggle: bool,
     pub moved: bool,
     pub armed: Armed,
-    pub writes: usize,
-}
-
-#[derive(Clone, Copy)]
-pub(crate) struct InStarted {
-    pub stage: InStage,
-    pub writes: usize,
 }
 
 #[derive(Clone, Copy)]
 pub(crate) struct OutStarted {
     pub stage: OutStage,
-    pub first: OptionArm,
-    pub second: OptionArm,
-    pub writes: usize,
+    pub first: Option<Arm>,
+    pub second: Option<Arm>,
 }
 
 pub(crate) fn nothing_armed() -> Armed
     ensures { result ≡ nothing_armed }
 {
     Armed {
-        setup: OptionSetup::None,
-        first: OptionOut::None,
-        second: OptionOut::None,
+        setup: None,
+        first: None,
+        second: None,
     }
 }
 
@@ -93,8 +86,7 @@ pub(crate) fn stage_length(x: Request, status: bool) -> usize
     if status {
         return 0;
     }
-    let kind = x.kind;
-    match kind {
+    match x.kind {
         Kind::Control(c) => c.wLength as usize,
         Kind::Bulk(_) => x.length,
     }
@@ -103,8 +95,7 @@ pub(crate) fn stage_length(x: Request, status: bool) -> usize
 pub(crate) fn target_of(x: Request) -> Target
     ensures { result ≡ target_of x }
 {
-    let kind = x.kind;
-    match kind {
+    match x.kind {
         Kind::Control(_) => Target {
             address: x.address,
             endpoint: 0,
@@ -121,84 +112,74 @@ pub(crate) fn target_of(x: Request) -> Target
 }
 
 // Every end of a transfer: the control pipe is free again.
-pub(crate) fn end(answer: StepAnswer, toggle: bool, moved: bool, writes: usize) -> Progress
-    ensures { result ≡ told (ended answer toggle moved [] []) writes }
+pub(crate) fn end(answer: Result<Step, Refusal>, toggle: bool, moved: bool) -> Progress
+    ensures { result ≡ told (ended answer toggle moved [] []) }
 {
     Progress {
-        next: Transfer::Idle,
-        answer: answer,
-        toggle: toggle,
-        moved: moved,
+        next: None,
+        answer,
+        toggle,
+        moved,
         armed: nothing_armed(),
-        writes: writes,
     }
 }
 
 // The end with an error: `parity` is that of the packets retired before it.
-pub(crate) fn fail(x: Request, parity: bool, e: UsbError, writes: usize) -> Progress
-    ensures { result ≡ told (failed x parity e [] []) writes }
+pub(crate) fn fail(x: Request, parity: bool, e: UsbError) -> Progress
+    ensures { result ≡ told (failed x parity e [] []) }
 {
-    let kind = x.kind;
     end(
-        StepAnswer::Refused(Refusal::Usb(e)),
-        toggle_in(kind),
-        toggle_out(kind, parity),
-        writes,
+        Err(Refusal::Usb(e)),
+        toggle_in(x.kind),
+        toggle_out(x.kind, parity),
     )
 }
 
-pub(crate) fn wait(x: Request, stage: Stage, again: bool, armed: Armed, writes: usize) -> Progress
-    ensures { result ≡ told (waits x stage again armed [] [] []) writes }
+pub(crate) fn wait(x: Request, stage: Stage, again: bool, armed: Armed) -> Progress
+    ensures { result ≡ told (waits x stage again armed [] [] []) }
 {
-    let kind = x.kind;
-    let toggle = toggle_in(kind);
+    let toggle = toggle_in(x.kind);
     Progress {
-        next: Transfer::Busy(Run {
-            request: x,
-            stage: stage,
-        }),
-        answer: StepAnswer::Waiting(again),
-        toggle: toggle,
+        next: Some(Run { request: x, stage }),
+        answer: Ok(Step::Waiting(again)),
+        toggle,
         moved: toggle,
-        armed: armed,
-        writes: writes,
+        armed,
     }
 }
 
-// `control_transfer_inner` up to its first poll, IN.
+// `control_transfer_inner` up to its first poll, IN. The stage's type, what is armed and what is sent differ from OUT's: one function over both would be no plainer.
+#[tactic(auto, unfolding(crate::specs::Outcome::start_in))]
 pub(crate) fn start_in(
     t: Target,
     kind: TransferType,
     status: bool,
     n: u16,
-    log: &mut [u32],
-    k: usize,
-) -> InStarted
-    requires { (k ≤ 40) × LogFits log.old }
-    ensures { StartsIn (start_in t kind status n) log.old k result log.new }
+    log: &mut Log<'_>,
+) -> InStage
+    requires { log.old.used ≤ 40 }
+    ensures { StartsIn (start_in t kind status n) log.old result log.new }
 {
-    let k = put_head(log, k, t, n as usize);
+    put_head(log, t, n as usize);
     let c = InPacketiser::new(kind, t.size, t.pid, n);
-    let g = in_arm_two(0, c, 0, log, k);
-    let k = put_enable(log, g.writes, t.size, n as usize);
-    let k = put_go(log, k, Direction::In);
+    let g = in_arm_two(0, c, 0, log);
+    put_enable(log, t.size, n as usize);
+    put_go(log, Direction::In);
     let p = g.packets;
-    InStarted {
-        stage: InStage {
-            status: status,
-            slot: p.slot,
-            toarm: p.remain,
-            zlp: p.zlp,
-            retire: false,
-            remain: n,
-            offset: 0,
-            inflight: g.inflight,
-        },
-        writes: k,
+    InStage {
+        status,
+        slot: p.slot,
+        toarm: p.remain,
+        zlp: p.zlp,
+        retire: false,
+        remain: n,
+        offset: 0,
+        inflight: g.inflight,
     }
 }
 
 // The same, OUT.
+#[tactic(auto, unfolding(crate::specs::Outcome::start_out))]
 pub(crate) fn start_out(
     t: Target,
     kind: TransferType,
@@ -206,46 +187,44 @@ pub(crate) fn start_out(
     received: u16,
     n: u16,
     buf: &[u8],
-    pm: &mut [u8],
-    log: &mut [u32],
-    k: usize,
+    pm: &mut PacketMemory,
+    log: &mut Log<'_>,
 ) -> OutStarted
-    requires { (n ≤ length buf.now) × MemoryFits pm.old × (k ≤ 40) × LogFits log.old }
-    ensures { StartsOut (start_out t kind status received n buf.now pm.old) log.old k result pm.new log.new }
+    requires { (n ≤ length buf.now) × (log.old.used ≤ 40) }
+    ensures { StartsOut (start_out t kind status received n buf.now pm.old) log.old result pm.new log.new }
 {
-    let k = put_head(log, k, t, n as usize);
-    let c = OutCounters::new(kind, t.size, t.pid, n);
-    let g = out_arm_two(0, c, 0, buf, pm, log, k);
-    let k = put_enable(log, g.writes, t.size, n as usize);
-    let k = put_go(log, k, Direction::Out);
+    put_head(log, t, n as usize);
+    let packets = OutPacketiser {
+        counters: OutCounters::new(kind, t.size, t.pid, n),
+        buf,
+    };
+    let g = out_arm_two(0, packets, 0, pm, log);
+    put_enable(log, t.size, n as usize);
+    put_go(log, Direction::Out);
     let p = g.packets;
-    let first = g.first;
-    let second = g.second;
     OutStarted {
         stage: OutStage {
-            status: status,
+            status,
             slot: p.slot,
             remain: p.remain,
             offset: p.offset,
             zlp: p.zlp,
             retire: false,
             inflight: g.inflight,
-            received: received,
+            received,
         },
-        first: first,
-        second: second,
-        writes: k,
+        first: g.first,
+        second: g.second,
     }
 }
 
 // A control transfer goes into its data or status stage.
-pub(crate) fn enter_in(x: Request, status: bool, n: u16, log: &mut [u32], k: usize) -> Progress
-    requires { (k ≤ 40) × LogFits log.old }
-    ensures { (m b : List ℕ) → Tells (enters_in x status n m b) log.old k result log.new }
+pub(crate) fn enter_in(x: Request, status: bool, n: u16, log: &mut Log<'_>) -> Progress
+    requires { log.old.used ≤ 40 }
+    ensures { (m b : List ℕ) → Tells (enters_in x status n m b) log.old result log.new }
 {
-    let s = start_in(target_of(x), TransferType::FixedSize, status, n, log, k);
-    let stage = s.stage;
-    wait(x, Stage::In(stage), true, nothing_armed(), s.writes)
+    let stage = start_in(target_of(x), TransferType::FixedSize, status, n, log);
+    wait(x, Stage::In(stage), true, nothing_armed())
 }
 
 pub(crate) fn enter_out(
@@ -254,12 +233,11 @@ pub(crate) fn enter_out(
     received: u16,
     n: u16,
     buf: &[u8],
-    pm: &mut [u8],
-    log: &mut [u32],
-    k: usize,
+    pm: &mut PacketMemory,
+    log: &mut Log<'_>,
 ) -> Progress
-    requires { (n ≤ length buf.now) × MemoryFits pm.old × (k ≤ 40) × LogFits log.old }
-    ensures { (b : List ℕ) → Moves (enters_out x status received n buf.now pm.old b) log.old k result pm.new log.new }
+    requires { (n ≤ length buf.now) × (log.old.used ≤ 40) }
+    ensures { (b : List ℕ) → Moves (enters_out x status received n buf.now pm.old b) log.old result pm.new log.new }
 {
     let t = target_of(x);
     let s = start_out(
@@ -271,20 +249,16 @@ pub(crate) fn enter_out(
         buf,
         pm,
         log,
-        k,
     );
-    let stage = s.stage;
-    let first = s.first;
-    let second = s.second;
-    let armed = outs_armed(t, first, second);
-    wait(x, Stage::Out(stage), true, armed, s.writes)
+    let armed = outs_armed(t, s.first, s.second);
+    wait(x, Stage::Out(s.stage), true, armed)
 }
 
-pub(crate) fn outs_armed(t: Target, first: OptionArm, second: OptionArm) -> Armed
+pub(crate) fn outs_armed(t: Target, first: Option<Arm>, second: Option<Arm>) -> Armed
     ensures { result ≡ outs_armed t.address t.endpoint first second }
 {
     Armed {
-        setup: OptionSetup::None,
+        setup: None,
         first: out_of(t.address, t.endpoint, first),
         second: out_of(t.address, t.endpoint, second),
     }

@@ -15,40 +15,38 @@ pub enum Refusal {
     PipeNotOpen,
 }
 
-#[derive(Clone, Copy)]
-pub enum OptionRefusal {
-    Some(Refusal),
-    None,
-}
+impl From<UsbError> for u8 {
+    ghost from_gives = { λ e n. n ≡ error_number e };
 
-fn error_number(e: UsbError) -> u8
-    ensures { result ≡ error_number e }
-{
-    match e {
-        UsbError::Stall => 1,
-        UsbError::Timeout => 2,
-        UsbError::Overflow => 3,
-        UsbError::BitStuffError => 4,
-        UsbError::CrcError => 5,
-        UsbError::DataSeqError => 6,
-        UsbError::BufferTooSmall => 7,
-        UsbError::AllPipesInUse => 8,
-        UsbError::ProtocolError => 9,
-        UsbError::TooManyDevices => 10,
-        UsbError::NoSuchEndpoint => 11,
+    fn from(e: UsbError) -> u8 {
+        match e {
+            UsbError::Stall => 1,
+            UsbError::Timeout => 2,
+            UsbError::Overflow => 3,
+            UsbError::BitStuffError => 4,
+            UsbError::CrcError => 5,
+            UsbError::DataSeqError => 6,
+            UsbError::BufferTooSmall => 7,
+            UsbError::AllPipesInUse => 8,
+            UsbError::ProtocolError => 9,
+            UsbError::TooManyDevices => 10,
+            UsbError::NoSuchEndpoint => 11,
+        }
     }
 }
 
-pub fn number(refusal: Refusal) -> u8
-    ensures { result ≡ number_of refusal }
-{
-    match refusal {
-        Refusal::Usb(e) => error_number(e),
-        Refusal::Address => 12,
-        Refusal::PacketSize => 13,
-        Refusal::BufferSize => 14,
-        Refusal::LentMemory => 15,
-        Refusal::State => 16,
-        Refusal::PipeNotOpen => 17,
+impl From<Refusal> for u8 {
+    ghost from_gives = { λ why n. n ≡ number_of why };
+
+    fn from(why: Refusal) -> u8 {
+        match why {
+            Refusal::Usb(e) => u8::from(e),
+            Refusal::Address => 12,
+            Refusal::PacketSize => 13,
+            Refusal::BufferSize => 14,
+            Refusal::LentMemory => 15,
+            Refusal::State => 16,
+            Refusal::PipeNotOpen => 17,
+        }
     }
 }

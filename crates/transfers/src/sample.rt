@@ -1,6 +1,7 @@
 // What a step samples, and what it finds there.
-ghost use Rattle.std.specs.Prelude.{◌≡◌};
-ghost use Rattle.transfers.specs.Sample.{errors, first_place, first_of, classify, available, full, length_in};
+ghost use Rattle.std.specs.Prelude.{◌≡◌, ◌<◌};
+ghost use Rattle.transfers.specs.Registers.{at};
+ghost use Rattle.transfers.specs.Sample.{errors, first_of, classify, available, full, length_in};
 
 use crate::host_controller::UsbError;
 use crate::registers::{READY_MASK, bit};
@@ -12,14 +13,7 @@ pub struct Sample {
     pub buffers: u32,
 }
 
-// What a poll of `Rp2040ControlEndpoint` answers.
-#[derive(Clone, Copy)]
-pub enum Poll {
-    Pending,
-    Ready(Found),
-}
-
-// What the status of a ready poll says.
+// What the status of a ready poll says. Three cases: an Option of a Result, inside `poll_status`'s own Option, would be no plainer.
 #[derive(Clone, Copy)]
 pub enum Found {
     Complete,
@@ -27,85 +21,68 @@ pub enum Found {
     Neither,
 }
 
-// The number of the first set error bit, 0 where none is set.
-fn first_error(status: u32) -> u32
-    ensures { result ≡ first_place status errors }
-{
-    if bit(status, 31) {
-        return 31;
-    }
-    if bit(status, 29) {
-        return 29;
-    }
-    if bit(status, 26) {
-        return 26;
-    }
-    if bit(status, 27) {
-        return 27;
-    }
-    if bit(status, 25) {
-        return 25;
-    }
-    if bit(status, 24) {
-        return 24;
-    }
-    0
-}
-
+// The first error bit that is set.
 fn error_of(status: u32) -> Found
     ensures { result ≡ first_of status errors }
 {
-    let first = first_error(status);
-    match first {
-        31 => Found::Failed(UsbError::DataSeqError),
-        29 => Found::Failed(UsbError::Stall),
-        26 => Found::Failed(UsbError::Overflow),
-        27 => Found::Failed(UsbError::Timeout),
-        25 => Found::Failed(UsbError::BitStuffError),
-        24 => Found::Failed(UsbError::CrcError),
-        _ => Found::Neither,
+    if bit(status, 31) {
+        return Found::Failed(UsbError::DataSeqError);
     }
+    if bit(status, 29) {
+        return Found::Failed(UsbError::Stall);
+    }
+    if bit(status, 26) {
+        return Found::Failed(UsbError::Overflow);
+    }
+    if bit(status, 27) {
+        return Found::Failed(UsbError::Timeout);
+    }
+    if bit(status, 25) {
+        return Found::Failed(UsbError::BitStuffError);
+    }
+    if bit(status, 24) {
+        return Found::Failed(UsbError::CrcError);
+    }
+    Found::Neither
 }
 
-pub fn poll_status(status: u32, intr: u32) -> Poll
+// What a poll of `Rp2040ControlEndpoint` answers: none while it is pending.
+#[tactic(auto, unfolding(crate::specs::Sample::classify))]
+pub fn poll_status(status: u32, intr: u32) -> Option<Found>
     ensures { result ≡ classify status intr }
 {
     if intr & READY_MASK == 0 {
-        return Poll::Pending;
+        return None;
     }
     if bit(status, 18) {
-        return Poll::Ready(Found::Complete);
+        return Some(Found::Complete);
     }
-    Poll::Ready(error_of(status))
+    Some(error_of(status))
 }
 
-// A slot's AVAILABLE, FULL and LENGTH in EP_BUFFER_CONTROL; slot 0 has the lower half.
+// Bit n of a slot's half of EP_BUFFER_CONTROL: slot 0 has the lower half.
+fn place(slot: bool, n: u32) -> u32
+    requires { n < 16 }
+    ensures { (result ≡ at slot n) × (result < 32) }
+{
+    if slot { 16 + n } else { n }
+}
+
+// A slot's AVAILABLE, FULL and LENGTH.
 pub(crate) fn slot_available(buffers: u32, slot: bool) -> bool
     ensures { result ≡ available buffers slot }
 {
-    if slot {
-        bit(buffers, 26)
-    } else {
-        bit(buffers, 10)
-    }
+    bit(buffers, place(slot, 10))
 }
 
 pub(crate) fn slot_full(buffers: u32, slot: bool) -> bool
     ensures { result ≡ full buffers slot }
 {
-    if slot {
-        bit(buffers, 31)
-    } else {
-        bit(buffers, 15)
-    }
+    bit(buffers, place(slot, 15))
 }
 
 pub(crate) fn slot_length(buffers: u32, slot: bool) -> u16
     ensures { result ≡ length_in buffers slot }
 {
-    if slot {
-        (buffers / 0x1_0000 % 0x400) as u16
-    } else {
-        (buffers % 0x400) as u16
-    }
+    ((buffers >> place(slot, 0)) % 0x400) as u16
 }

@@ -1,49 +1,30 @@
 // Which call serves a transfer, and which states are sound.
 ghost use Rattle.std.specs.Prelude.{◌≡◌};
-ghost use Rattle.transfers.specs.State.{fills_of, is_in, fills, same, phase_has, kind_has, is_control, stage_fits, served, address_good, endpoint_good, size_good, kind_good, request_good, moving_good, stage_good, sound};
+ghost use Rattle.transfers.specs.State.{fills_of, is_in, fills, phase_has, kind_has, is_control, stage_fits, served, address_good, endpoint_good, size_good, kind_good, request_good, moving_good, stage_good, sound};
 
 use crate::driver::{Kind, Request, Stage};
 use crate::host_controller::DataPhase;
 use crate::progress::stage_length;
 use crate::wire::Direction;
 
-fn same_as(a: bool, b: bool) -> bool
-    ensures { result ≡ same a b }
-{
-    if a { b } else { !b }
-}
-
 fn is_in(d: Direction) -> bool
     ensures { result ≡ is_in d }
 {
-    match d {
-        Direction::In => true,
-        Direction::Out => false,
-    }
+    matches!(d, Direction::In)
 }
 
 fn phase_fills(phase: DataPhase) -> bool
     ensures { result ≡ fills_of phase }
 {
-    match phase {
-        DataPhase::In => true,
-        DataPhase::Out => false,
-        DataPhase::None => true,
-    }
+    !matches!(phase, DataPhase::Out)
 }
 
 fn kind_fills(kind: Kind) -> bool
     ensures { result ≡ fills kind }
 {
     match kind {
-        Kind::Control(c) => {
-            let phase = c.phase;
-            phase_fills(phase)
-        }
-        Kind::Bulk(b) => {
-            let d = b.direction;
-            is_in(d)
-        }
+        Kind::Control(c) => phase_fills(c.phase),
+        Kind::Bulk(b) => is_in(b.direction),
     }
 }
 
@@ -51,9 +32,9 @@ fn phase_has(phase: DataPhase, inward: bool, status: bool) -> bool
     ensures { result ≡ phase_has phase inward status }
 {
     match phase {
-        DataPhase::In => same_as(inward, !status),
-        DataPhase::Out => same_as(inward, status),
-        DataPhase::None => { if inward { status } else { false } }
+        DataPhase::In => inward != status,
+        DataPhase::Out => inward == status,
+        DataPhase::None => inward && status,
     }
 }
 
@@ -61,28 +42,15 @@ fn kind_has(kind: Kind, inward: bool, status: bool) -> bool
     ensures { result ≡ kind_has kind inward status }
 {
     match kind {
-        Kind::Control(c) => {
-            let phase = c.phase;
-            phase_has(phase, inward, status)
-        }
-        Kind::Bulk(b) => {
-            let d = b.direction;
-            if status {
-                false
-            } else {
-                same_as(inward, is_in(d))
-            }
-        }
+        Kind::Control(c) => phase_has(c.phase, inward, status),
+        Kind::Bulk(b) => !status && inward == is_in(b.direction),
     }
 }
 
 fn is_control(kind: Kind) -> bool
     ensures { result ≡ is_control kind }
 {
-    match kind {
-        Kind::Control(_) => true,
-        Kind::Bulk(_) => false,
-    }
+    matches!(kind, Kind::Control(_))
 }
 
 fn stage_fits(kind: Kind, stage: Stage) -> bool
@@ -96,14 +64,11 @@ fn stage_fits(kind: Kind, stage: Stage) -> bool
 }
 
 // Whether a call that lends a buffer to fill, or one to send, serves this transfer.
+#[tactic(auto, unfolding(crate::specs::State::served))]
 pub(crate) fn serves(filling: bool, kind: Kind, stage: Stage) -> bool
     ensures { result ≡ served filling kind stage }
 {
-    if same_as(filling, kind_fills(kind)) {
-        stage_fits(kind, stage)
-    } else {
-        false
-    }
+    filling == kind_fills(kind) && stage_fits(kind, stage)
 }
 
 pub(crate) fn address_good(address: u8) -> bool
@@ -115,13 +80,13 @@ pub(crate) fn address_good(address: u8) -> bool
 pub fn endpoint_good(endpoint: u8) -> bool
     ensures { result ≡ endpoint_good endpoint }
 {
-    if 1 <= endpoint { endpoint <= 15 } else { false }
+    1 <= endpoint && endpoint <= 15
 }
 
 pub(crate) fn size_good(size: u16) -> bool
     ensures { result ≡ size_good size }
 {
-    if 1 <= size { size <= 64 } else { false }
+    1 <= size && size <= 64
 }
 
 fn kind_good(kind: Kind) -> bool
@@ -136,26 +101,13 @@ fn kind_good(kind: Kind) -> bool
 fn request_good(x: Request) -> bool
     ensures { result ≡ request_good x }
 {
-    let kind = x.kind;
-    if !address_good(x.address) {
-        return false;
-    }
-    if !size_good(x.size as u16) {
-        return false;
-    }
-    kind_good(kind)
+    address_good(x.address) && size_good(x.size as u16) && kind_good(x.kind)
 }
 
 fn moving_good(inflight: u8, offset: u16, remain: u16, n: usize, length: usize) -> bool
     ensures { result ≡ moving_good inflight offset remain n length }
 {
-    if 2 < inflight {
-        return false;
-    }
-    if n < offset as usize + remain as usize {
-        return false;
-    }
-    n <= length
+    inflight <= 2 && offset as usize + remain as usize <= n && n <= length
 }
 
 fn stage_good(x: Request, stage: Stage) -> bool
@@ -180,12 +132,9 @@ fn stage_good(x: Request, stage: Stage) -> bool
     }
 }
 
+#[tactic(auto, unfolding(crate::specs::State::sound))]
 pub(crate) fn is_sound(x: Request, stage: Stage) -> bool
     ensures { result ≡ sound x stage }
 {
-    if request_good(x) {
-        stage_good(x, stage)
-    } else {
-        false
-    }
+    request_good(x) && stage_good(x, stage)
 }

@@ -1,274 +1,198 @@
 // A step: the poll, and the stage that follows it.
-ghost use Rattle.std.specs.Prelude.{◌≡◌, ℕ, ◌+◌, ◌≤◌, true, false, List, [], ◌∷◌, length};
+ghost use Rattle.std.specs.Prelude.{◌≡◌, ℕ, ◌+◌, ◌≤◌, true, false, List, [], ◌∷◌, length, MatchResult};
 ghost use Rattle.transfers.specs.Answers.{nothing_armed};
 ghost use Rattle.transfers.specs.Writes.{awaits};
 ghost use Rattle.transfers.specs.Outcome.{waits};
-ghost use Rattle.transfers.specs.Step.{lent, keeping, in_step, out_step, stage_step, acts};
+ghost use Rattle.transfers.specs.Step.{lent, stage_step, acts};
 ghost use Rattle.transfers.specs.Calls.{held_toggle, refuses, may_step, step_of};
-ghost use Rattle.transfers.specs.Ready.{Within, InIsStatus};
-ghost use Rattle.transfers.specs.Acts.{told, Tells, Moves, Acts};
-ghost use Rattle.transfers.specs.Memory.{LogFits, MemoryFits};
+ghost use Rattle.transfers.specs.Ready.{Within, InIsStatus, Admitted, Refused};
+ghost use Rattle.transfers.specs.Acts.{told, Tells, Moves, Acts, Steps};
 
-use crate::answers::StepAnswer;
-use crate::driver::{InStage, OutStage, Request, Run, Stage, Transfer};
+use crate::answers::Step;
+use crate::driver::{Run, Stage};
 use crate::in_stage::in_step;
-use crate::log::put;
-use crate::memory::lent_fits;
+use crate::log::Log;
+use crate::memory::{PacketMemory, lent_fits};
 use crate::out_stage::out_step;
 use crate::progress::{Progress, nothing_armed, toggle_in, wait};
 use crate::refusal::Refusal;
 use crate::registers::{ALL, ENDING_MASK, INTE, POLLED, SIE_STATUS};
-use crate::sample::{Found, Poll, Sample, poll_status};
+use crate::sample::{Found, Sample, poll_status};
 use crate::setup_stage::setup_step;
 use crate::state::{is_sound, serves};
 
-// A status stage IN: the Rust's `&mut []`.
-fn status_in(
-    found: Found,
-    x: Request,
-    st: InStage,
-    buffers: u32,
-    pm: &mut [u8],
-    log: &mut [u32],
-    k: usize,
-) -> Progress
-    requires { (st.offset + st.remain ≤ 0) × MemoryFits pm.old × (k ≤ 20) × LogFits log.old }
-    ensures { (b : List ℕ) → Moves (keeping true b (in_step found x st buffers [] pm.old)) log.old k result pm.new log.new }
+// A status stage sends nothing: the Rust's `&[]`.
+fn lent(status: bool, buf: &[u8]) -> &[u8]
+    ensures { result.now ≡ lent status buf.now }
 {
-    let mut none = [0u8; 0];
-    in_step(found, x, st, buffers, &mut none, pm, log, k)
+    if status { &[] } else { buf }
 }
 
-// A status stage OUT: the Rust's `&[]`.
-fn status_out(
-    found: Found,
-    x: Request,
-    st: OutStage,
-    buffers: u32,
-    pm: &mut [u8],
-    log: &mut [u32],
-    k: usize,
-) -> Progress
-    requires { (st.offset + st.remain ≤ 0) × MemoryFits pm.old × (k ≤ 20) × LogFits log.old }
-    ensures { (b : List ℕ) → Moves (keeping true b (out_step found x st buffers [] pm.old)) log.old k result pm.new log.new }
-{
-    let none = [0u8; 0];
-    out_step(found, x, st, buffers, &none, pm, log, k)
-}
-
-fn fill_step(
-    found: Found,
-    x: Request,
-    st: InStage,
-    buffers: u32,
-    buf: &mut [u8],
-    pm: &mut [u8],
-    log: &mut [u32],
-    k: usize,
-) -> Progress
-    requires { (st.offset + st.remain ≤ length (lent st.status buf.old)) × MemoryFits pm.old × (k ≤ 20) × LogFits log.old }
-    ensures { Acts (keeping st.status buf.old (in_step found x st buffers (lent st.status buf.old) pm.old)) log.old k result pm.new buf.new log.new }
-{
-    if st.status {
-        return status_in(found, x, st, buffers, pm, log, k);
-    }
-    in_step(found, x, st, buffers, buf, pm, log, k)
-}
-
-fn send_step(
-    found: Found,
-    x: Request,
-    st: OutStage,
-    buffers: u32,
-    buf: &[u8],
-    pm: &mut [u8],
-    log: &mut [u32],
-    k: usize,
-) -> Progress
-    requires { (st.offset + st.remain ≤ length (lent st.status buf.now)) × MemoryFits pm.old × (k ≤ 20) × LogFits log.old }
-    ensures { Moves (keeping st.status buf.now (out_step found x st buffers (lent st.status buf.now) pm.old)) log.old k result pm.new log.new }
-{
-    if st.status {
-        return status_out(found, x, st, buffers, pm, log, k);
-    }
-    out_step(found, x, st, buffers, buf, pm, log, k)
-}
-
-fn stage_in(
-    found: Found,
-    x: Request,
-    stage: Stage,
-    buffers: u32,
-    buf: &mut [u8],
-    pm: &mut [u8],
-    log: &mut [u32],
-    k: usize,
-) -> Progress
-    requires { (x.length ≡ length buf.old) × Within stage buf.old × MemoryFits pm.old × (k ≤ 20) × LogFits log.old }
-    ensures { Acts (stage_step found x stage buffers buf.old pm.old) log.old k result pm.new buf.new log.new }
-{
-    match stage {
-        Stage::Setup => setup_step(found, x, buf, pm, log, k),
-        Stage::In(st) => fill_step(found, x, st, buffers, buf, pm, log, k),
-        Stage::Out(st) => send_step(found, x, st, buffers, buf, pm, log, k),
-    }
-}
-
+// A stage that leaves the caller's buffer: an IN stage here is a status stage, which fills the Rust's `&mut []`.
 fn stage_out(
     found: Found,
-    x: Request,
-    stage: Stage,
+    run: Run,
     buffers: u32,
     buf: &[u8],
-    pm: &mut [u8],
-    log: &mut [u32],
-    k: usize,
+    pm: &mut PacketMemory,
+    log: &mut Log<'_>,
 ) -> Progress
-    requires { (x.length ≡ length buf.now) × Within stage buf.now × InIsStatus stage × MemoryFits pm.old × (k ≤ 20) × LogFits log.old }
-    ensures { Moves (stage_step found x stage buffers buf.now pm.old) log.old k result pm.new log.new }
+    requires { (run.request.length ≡ length buf.now) × Within run.stage buf.now × InIsStatus run.stage × (log.old.used ≤ 20) }
+    ensures { Moves (stage_step found run.request run.stage buffers buf.now pm.old) log.old result pm.new log.new }
 {
-    match stage {
-        Stage::Setup => setup_step(found, x, buf, pm, log, k),
-        Stage::In(st) => status_in(found, x, st, buffers, pm, log, k),
-        Stage::Out(st) => send_step(found, x, st, buffers, buf, pm, log, k),
+    let x = run.request;
+    match run.stage {
+        Stage::Setup => setup_step(found, x, buf, pm, log),
+        Stage::In(st) => in_step(found, x, st, buffers, &mut [], pm, log),
+        Stage::Out(st) => out_step(found, x, st, buffers, lent(st.status, buf), pm, log),
+    }
+}
+
+// Only an IN stage of data fills the caller's buffer.
+fn stage_in(
+    found: Found,
+    run: Run,
+    buffers: u32,
+    buf: &mut [u8],
+    pm: &mut PacketMemory,
+    log: &mut Log<'_>,
+) -> Progress
+    requires { (run.request.length ≡ length buf.old) × Within run.stage buf.old × (log.old.used ≤ 20) }
+    ensures { Acts (stage_step found run.request run.stage buffers buf.old pm.old) log.old result pm.new buf.new log.new }
+{
+    match run.stage {
+        Stage::In(st) if !st.status => in_step(found, run.request, st, buffers, buf, pm, log),
+        _ => stage_out(found, run, buffers, buf, pm, log),
     }
 }
 
 // The poll is not ready: what it waits for is enabled.
-fn pending(x: Request, stage: Stage, log: &mut [u32], k: usize) -> Progress
-    requires { (k ≤ 20) × LogFits log.old }
-    ensures { (m b : List ℕ) → Tells (waits x stage false nothing_armed (awaits ∷ []) m b) log.old k result log.new }
+#[inline(always)]
+fn pending(run: Run, log: &mut Log<'_>) -> Progress
+    requires { log.old.used ≤ 20 }
+    ensures { (m b : List ℕ) → Tells (waits run.request run.stage false nothing_armed (awaits ∷ []) m b) log.old result log.new }
 {
-    let k = put(log, k, INTE, ENDING_MASK, ENDING_MASK);
-    wait(x, stage, false, nothing_armed(), k)
+    log.put(INTE, ENDING_MASK, ENDING_MASK);
+    wait(run.request, run.stage, false, nothing_armed())
 }
 
-fn act_in(
-    x: Request,
-    stage: Stage,
-    s: Sample,
-    buf: &mut [u8],
-    pm: &mut [u8],
-    log: &mut [u32],
-) -> Progress
-    requires { (x.length ≡ length buf.old) × Within stage buf.old × MemoryFits pm.old × LogFits log.old }
-    ensures { Acts (acts x stage s buf.old pm.old) log.old 0 result pm.new buf.new log.new }
+// `act_in` and `act_out`, and the steps below, stay apart by `&mut [u8]` and `&[u8]`: one function over both would take the stage as a closure, or the buffer by a trait with the stage as a ghost member, and its clauses would speak of that besides `acts`, for four lines that are shared.
+#[tactic(auto, unfolding(crate::specs::Step::acts))]
+fn act_in(run: Run, s: Sample, buf: &mut [u8], pm: &mut PacketMemory, log: &mut Log<'_>) -> Progress
+    requires { (run.request.length ≡ length buf.old) × Within run.stage buf.old × (log.old.used ≤ 19) }
+    ensures { Acts (acts run.request run.stage s buf.old pm.old) log.old result pm.new buf.new log.new }
 {
-    let k = put(log, 0, SIE_STATUS, ALL, POLLED);
-    let p = poll_status(s.status, s.intr);
-    match p {
-        Poll::Pending => pending(x, stage, log, k),
-        Poll::Ready(found) => stage_in(found, x, stage, s.buffers, buf, pm, log, k),
+    log.put(SIE_STATUS, ALL, POLLED);
+    match poll_status(s.status, s.intr) {
+        None => pending(run, log),
+        Some(found) => stage_in(found, run, s.buffers, buf, pm, log),
     }
 }
 
-fn act_out(
-    x: Request,
-    stage: Stage,
-    s: Sample,
-    buf: &[u8],
-    pm: &mut [u8],
-    log: &mut [u32],
-) -> Progress
-    requires { (x.length ≡ length buf.now) × Within stage buf.now × InIsStatus stage × MemoryFits pm.old × LogFits log.old }
-    ensures { Moves (acts x stage s buf.now pm.old) log.old 0 result pm.new log.new }
+#[tactic(auto, unfolding(crate::specs::Step::acts))]
+fn act_out(run: Run, s: Sample, buf: &[u8], pm: &mut PacketMemory, log: &mut Log<'_>) -> Progress
+    requires { (run.request.length ≡ length buf.now) × Within run.stage buf.now × InIsStatus run.stage × (log.old.used ≤ 19) }
+    ensures { Moves (acts run.request run.stage s buf.now pm.old) log.old result pm.new log.new }
 {
-    let k = put(log, 0, SIE_STATUS, ALL, POLLED);
-    let p = poll_status(s.status, s.intr);
-    match p {
-        Poll::Pending => pending(x, stage, log, k),
-        Poll::Ready(found) => stage_out(found, x, stage, s.buffers, buf, pm, log, k),
+    log.put(SIE_STATUS, ALL, POLLED);
+    match poll_status(s.status, s.intr) {
+        None => pending(run, log),
+        Some(found) => stage_out(found, run, s.buffers, buf, pm, log),
     }
 }
 
-pub(crate) fn held_toggle(t: Transfer) -> bool
+pub(crate) fn held_toggle(t: Option<Run>) -> bool
     ensures { result ≡ held_toggle t }
 {
     match t {
-        Transfer::Idle => false,
-        Transfer::Busy(run) => {
-            let x = run.request;
-            let kind = x.kind;
-            toggle_in(kind)
-        }
+        None => false,
+        Some(run) => toggle_in(run.request.kind),
     }
 }
 
-fn refuse(t: Transfer, e: Refusal) -> Progress
-    ensures { result ≡ told (refuses t e [] []) 0 }
+#[inline(always)]
+fn refuse(t: Option<Run>, e: Refusal) -> Progress
+    ensures { result ≡ told (refuses t e [] []) }
 {
     let toggle = held_toggle(t);
     Progress {
         next: t,
-        answer: StepAnswer::Refused(e),
-        toggle: toggle,
+        answer: Err(e),
+        toggle,
         moved: toggle,
         armed: nothing_armed(),
-        writes: 0,
     }
 }
 
+#[inline(always)]
 pub(crate) fn may_step(filling: bool, run: Run) -> bool
     ensures { result ≡ may_step filling run }
 {
-    let x = run.request;
-    let kind = x.kind;
-    let stage = run.stage;
-    if serves(filling, kind, stage) {
-        is_sound(x, stage)
-    } else {
-        false
-    }
+    serves(filling, run.request.kind, run.stage) && is_sound(run.request, run.stage)
 }
 
+// The checks of a step, in their order; `n` is the length of the buffer lent.
+#[tactic(auto, unfolding(crate::specs::Calls::step_of))]
+#[inline(always)]
+fn admit(filling: bool, t: Option<Run>, n: usize, pm: &[u8], log: &[u32]) -> Result<Run, Refusal>
+    ensures { MatchResult result (Admitted filling t n pm.now log.now) (Refused filling t n pm.now log.now) }
+{
+    if !lent_fits(pm, log) {
+        return Err(Refusal::LentMemory);
+    }
+    let run = t.ok_or(Refusal::State)?;
+    if !may_step(filling, run) {
+        return Err(Refusal::State);
+    }
+    if n != run.request.length {
+        return Err(Refusal::LentMemory);
+    }
+    Ok(run)
+}
+
+// A step and the count of its writes.
 pub(crate) fn step_in(
-    t: Transfer,
+    t: Option<Run>,
     s: Sample,
     buf: &mut [u8],
     pm: &mut [u8],
     log: &mut [u32],
-) -> Progress
-    ensures { Acts (step_of true t s buf.old pm.old log.old) log.old 0 result pm.new buf.new log.new }
+) -> (Progress, usize)
+    ensures { let o = step_of true t s buf.old pm.old log.old in Steps o log.old result.0 result.1 pm.new log.new × (buf.new ≡ o.buffer) }
 {
-    if !lent_fits(pm, log) {
-        return refuse(t, Refusal::LentMemory);
+    match admit(true, t, buf.len(), pm, log) {
+        Err(why) => (refuse(t, why), 0),
+        Ok(run) => {
+            let whole = pm.as_mut_array().unwrap();
+            let mut log = Log {
+                words: log,
+                used: 0,
+            };
+            let progress = act_in(run, s, buf, whole, &mut log);
+            (progress, log.used)
+        }
     }
-    let Transfer::Busy(run) = t else {
-        return refuse(t, Refusal::State);
-    };
-    if !may_step(true, run) {
-        return refuse(t, Refusal::State);
-    }
-    let x = run.request;
-    let stage = run.stage;
-    if buf.len() != x.length {
-        return refuse(t, Refusal::LentMemory);
-    }
-    act_in(x, stage, s, buf, pm, log)
 }
 
 pub(crate) fn step_out(
-    t: Transfer,
+    t: Option<Run>,
     s: Sample,
     buf: &[u8],
     pm: &mut [u8],
     log: &mut [u32],
-) -> Progress
-    ensures { Moves (step_of false t s buf.now pm.old log.old) log.old 0 result pm.new log.new }
+) -> (Progress, usize)
+    ensures { Steps (step_of false t s buf.now pm.old log.old) log.old result.0 result.1 pm.new log.new }
 {
-    if !lent_fits(pm, log) {
-        return refuse(t, Refusal::LentMemory);
+    match admit(false, t, buf.len(), pm, log) {
+        Err(why) => (refuse(t, why), 0),
+        Ok(run) => {
+            let whole = pm.as_mut_array().unwrap();
+            let mut log = Log {
+                words: log,
+                used: 0,
+            };
+            let progress = act_out(run, s, buf, whole, &mut log);
+            (progress, log.used)
+        }
     }
-    let Transfer::Busy(run) = t else {
-        return refuse(t, Refusal::State);
-    };
-    if !may_step(false, run) {
-        return refuse(t, Refusal::State);
-    }
-    let x = run.request;
-    let stage = run.stage;
-    if buf.len() != x.length {
-        return refuse(t, Refusal::LentMemory);
-    }
-    act_out(x, stage, s, buf, pm, log)
 }

@@ -1,12 +1,11 @@
 // The blocks of register writes that a transfer is made of, put into the log.
 ghost use Rattle.std.specs.Prelude.{◌≡◌, ◌+◌, ◌<◌, ◌≤◌, ◌++◌};
 ghost use Rattle.transfers.specs.Registers.{weigh, half};
-ghost use Rattle.transfers.specs.Log.{Wrote};
+ghost use Rattle.transfers.specs.Puts.{Puts};
 ghost use Rattle.transfers.specs.Writes.{preamble, low_word, high_word, setup_words, setup_start, epx_value, head_writes, arm_value, arm_writes, enable_writes, towards, go_writes, quiets};
-ghost use Rattle.transfers.specs.Memory.{LogFits};
 
 use crate::host_controller::TransferExtras;
-use crate::log::{put, put_delay};
+use crate::log::Log;
 use crate::registers::*;
 use crate::wire::{Direction, SetupPacket};
 use cutting::packetiser::Arm;
@@ -56,40 +55,38 @@ pub(crate) fn preamble(x: TransferExtras) -> bool
     }
 }
 
-fn put_setup_words(log: &mut [u32], s: SetupPacket) -> usize
-    requires { LogFits log.old }
-    ensures { Wrote log.old 0 (setup_words s) log.new result }
+fn put_setup_words(log: &mut Log<'_>, s: SetupPacket)
+    requires { log.old.used ≤ 59 }
+    ensures { Puts log.old (setup_words s) log.new }
 {
-    let k = put(log, 0, EPX_CONTROL, ALL, EPX_BUFFER);
-    let k = put(log, k, EP_BUFFER_CONTROL, ALL, 0);
-    let k = put(log, k, SETUP_PACKET_LOW, ALL, low_word(s));
-    let k = put(log, k, SETUP_PACKET_HIGH, ALL, high_word(s));
-    put(log, k, SIE_STATUS, ALL, ALL)
+    log.put(EPX_CONTROL, ALL, EPX_BUFFER);
+    log.put(EP_BUFFER_CONTROL, ALL, 0);
+    log.put(SETUP_PACKET_LOW, ALL, low_word(s));
+    log.put(SETUP_PACKET_HIGH, ALL, high_word(s));
+    log.put(SIE_STATUS, ALL, ALL)
 }
 
-fn put_setup_start(log: &mut [u32], k: usize, address: u8, x: TransferExtras) -> usize
-    requires { (k ≤ 60) × LogFits log.old }
-    ensures { Wrote log.old k (setup_start address x) log.new result }
+fn put_setup_start(log: &mut Log<'_>, address: u8, x: TransferExtras)
+    requires { log.old.used ≤ 60 }
+    ensures { Puts log.old (setup_start address x) log.new }
 {
-    let k = put(log, k, ADDR_ENDP, ALL, address as u32);
-    let k = put(
-        log,
-        k,
+    log.put(ADDR_ENDP, ALL, address as u32);
+    log.put(
         SIE_CTRL,
         SETUP_TRANSACTION,
         SEND_SETUP + weight(preamble(x), PREAMBLE_EN),
     );
-    let k = put_delay(log, k);
-    put(log, k, SIE_CTRL, START_TRANS, START_TRANS)
+    log.put_delay();
+    log.put(SIE_CTRL, START_TRANS, START_TRANS)
 }
 
 // `send_setup` up to its first poll.
-pub(crate) fn put_setup(log: &mut [u32], address: u8, x: TransferExtras, s: SetupPacket) -> usize
-    requires { LogFits log.old }
-    ensures { Wrote log.old 0 (setup_words s ++ setup_start address x) log.new result }
+pub(crate) fn put_setup(log: &mut Log<'_>, address: u8, x: TransferExtras, s: SetupPacket)
+    requires { log.old.used ≤ 55 }
+    ensures { Puts log.old (setup_words s ++ setup_start address x) log.new }
 {
-    let k = put_setup_words(log, s);
-    put_setup_start(log, k, address, x)
+    put_setup_words(log, s);
+    put_setup_start(log, address, x)
 }
 
 fn epx_value(t: Target, n: usize) -> u32
@@ -99,21 +96,20 @@ fn epx_value(t: Target, n: usize) -> u32
 }
 
 // `control_transfer_inner` of n bytes, before its first packet.
-pub(crate) fn put_head(log: &mut [u32], k: usize, t: Target, n: usize) -> usize
-    requires { (k ≤ 59) × LogFits log.old }
-    ensures { Wrote log.old k (head_writes t n) log.new result }
+#[tactic(auto, unfolding(crate::specs::Writes::head_writes))]
+pub(crate) fn put_head(log: &mut Log<'_>, t: Target, n: usize)
+    requires { log.old.used ≤ 59 }
+    ensures { Puts log.old (head_writes t n) log.new }
 {
-    let k = put(log, k, EPX_CONTROL, ALL, epx_value(t, n));
-    let k = put(log, k, EP_BUFFER_CONTROL, ALL, 0);
-    let k = put(log, k, SIE_STATUS, ALL, ALL);
-    let k = put(
-        log,
-        k,
+    log.put(EPX_CONTROL, ALL, epx_value(t, n));
+    log.put(EP_BUFFER_CONTROL, ALL, 0);
+    log.put(SIE_STATUS, ALL, ALL);
+    log.put(
         ADDR_ENDP,
         ALL,
         t.address as u32 + t.endpoint as u32 * 0x1_0000,
     );
-    put(log, k, NAK_POLL, ALL, NAK_DELAYS)
+    log.put(NAK_POLL, ALL, NAK_DELAYS)
 }
 
 fn arm_value(full: bool, a: Arm) -> u32
@@ -123,36 +119,36 @@ fn arm_value(full: bool, a: Arm) -> u32
 }
 
 // `prepare`: a slot is armed.
-pub(crate) fn put_arm(log: &mut [u32], k: usize, full: bool, a: Arm) -> usize
-    requires { (k ≤ 61) × LogFits log.old }
-    ensures { Wrote log.old k (arm_writes full a) log.new result }
+#[tactic(auto, unfolding(crate::specs::Writes::arm_writes))]
+#[inline(always)]
+pub(crate) fn put_arm(log: &mut Log<'_>, full: bool, a: Arm)
+    requires { log.old.used ≤ 61 }
+    ensures { Puts log.old (arm_writes full a) log.new }
 {
     let v = arm_value(full, a);
-    let k = put(
-        log,
-        k,
+    log.put(
         EP_BUFFER_CONTROL,
         in_half(a.slot, PACKET),
         in_half(a.slot, v),
     );
-    let k = put_delay(log, k);
-    put(
-        log,
-        k,
+    log.put_delay();
+    log.put(
         EP_BUFFER_CONTROL,
         in_half(a.slot, AVAILABLE),
         in_half(a.slot, AVAILABLE),
     )
 }
 
-pub(crate) fn put_enable(log: &mut [u32], k: usize, size: u8, n: usize) -> usize
-    requires { (k ≤ 61) × LogFits log.old }
-    ensures { Wrote log.old k (enable_writes size n) log.new result }
+#[tactic(auto, unfolding(crate::specs::Writes::enable_writes))]
+#[inline(always)]
+pub(crate) fn put_enable(log: &mut Log<'_>, size: u8, n: usize)
+    requires { log.old.used ≤ 61 }
+    ensures { Puts log.old (enable_writes size n) log.new }
 {
     let m = ENDING_MASK + weight(2 * (size as usize) <= n, BUFF_STATUS_MASK);
-    let k = put(log, k, SIE_STATUS, ALL, RESULTS);
-    let k = put(log, k, BUFF_STATUS, ALL, EPX_BUFFERS);
-    put(log, k, INTE, m, m)
+    log.put(SIE_STATUS, ALL, RESULTS);
+    log.put(BUFF_STATUS, ALL, EPX_BUFFERS);
+    log.put(INTE, m, m)
 }
 
 fn towards_value(d: Direction) -> u32
@@ -165,19 +161,21 @@ fn towards_value(d: Direction) -> u32
 }
 
 // The transaction is started.
-pub(crate) fn put_go(log: &mut [u32], k: usize, d: Direction) -> usize
-    requires { (k ≤ 61) × LogFits log.old }
-    ensures { Wrote log.old k (go_writes d) log.new result }
+#[tactic(auto, unfolding(crate::specs::Writes::go_writes))]
+pub(crate) fn put_go(log: &mut Log<'_>, d: Direction)
+    requires { log.old.used ≤ 61 }
+    ensures { Puts log.old (go_writes d) log.new }
 {
-    let k = put(log, k, SIE_CTRL, TRANSACTION, towards_value(d));
-    let k = put_delay(log, k);
-    put(log, k, SIE_CTRL, START_TRANS, START_TRANS)
+    log.put(SIE_CTRL, TRANSACTION, towards_value(d));
+    log.put_delay();
+    log.put(SIE_CTRL, START_TRANS, START_TRANS)
 }
 
-pub(crate) fn put_quiets(log: &mut [u32], k: usize) -> usize
-    requires { (k ≤ 62) × LogFits log.old }
-    ensures { Wrote log.old k quiets log.new result }
+#[inline(always)]
+pub(crate) fn put_quiets(log: &mut Log<'_>)
+    requires { log.old.used ≤ 62 }
+    ensures { Puts log.old quiets log.new }
 {
-    let k = put(log, k, BUFF_STATUS, ALL, EPX_BUFFERS);
-    put(log, k, INTE, ENDING_MASK, 0)
+    log.put(BUFF_STATUS, ALL, EPX_BUFFERS);
+    log.put(INTE, ENDING_MASK, 0)
 }

@@ -5,6 +5,5 @@ use cases::{Kind, print_cases};
 use std::io;
 
 fn main(rt: HostRuntime) -> io::Result<()> {
-    let mut out = rt.stdout();
-    print_cases(&mut rt.stdin(), &mut out, Kind::Packets)
+    print_cases(&mut rt.stdin(), &mut rt.stdout(), Kind::Packets)
 }

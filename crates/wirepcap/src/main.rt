@@ -1,4 +1,5 @@
 // Writes the packets of the record on standard input as a pcap file.
+// A program of its own for each listing: reading and one call.
 #![tactic(auto)]
 
 use capture::{Form, print_capture};
@@ -8,6 +9,5 @@ use std::io;
 fn main(rt: HostRuntime) -> io::Result<()> {
     let mut room = [0u8; 65537];
     let n = read_input(&mut rt.stdin(), &mut room)?;
-    let mut out = rt.stdout();
-    print_capture(&mut out, Form::Pcap, first(&room, n))
+    print_capture(&mut rt.stdout(), Form::Pcap, first(&room, n))
 }

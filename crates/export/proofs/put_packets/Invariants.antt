@@ -7,8 +7,8 @@ use Rattle.export.specs.Export.{export_of}
 use Rattle.export.proofs.Walking.{Stored}
 use Rattle.export.proofs.put_packets.Given as goal
 
-abbrev pub invariant-loop-at : goal.invariant-loop-at
-invariant-loop-at l = (length l.out ≡ length l.initial.out) × ((w : Whole l.s) → length (export_of w.ms) ≤ length l.initial.out → Stored w.ms l.s l.at l.used l.initial.out l.out)
+abbrev pub invariant-loop-l : goal.invariant-loop-l
+invariant-loop-l l = (length l.out ≡ length l.initial.out) × ((w : Whole l.s) → length (export_of w.ms) ≤ length l.initial.out → Stored w.ms l.s l.at l.used l.initial.out l.out)
 
-abbrev pub decreases-loop-at : goal.decreases-loop-at
-decreases-loop-at l = length l.s - l.at
+abbrev pub decreases-loop-l : goal.decreases-loop-l
+decreases-loop-l l = length l.s - l.at

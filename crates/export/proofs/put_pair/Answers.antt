@@ -9,8 +9,8 @@ use Rattle.export.proofs.put_pair.Goals as goal
 pub returns : goal.returns
 returns c = λ ha he hn room.
     let a = c.args in
-    let w = c.write_token-token in
-    let d = c.write_data-data in
+    let w = c.write_token in
+    let d = c.write_data in
     pair_put (token a.kind a.address a.endpoint) (payload a.second a.bytes.now) a.out.now _ _ a.used _ _ w.result d.result
     (rw (le-leb a.address 127 ha, le-leb a.endpoint 15 he)) (le-leb (length a.bytes.now) 64 hn)
-    w.ensures c.used_after-next.ensures d.ensures c.used_after.ensures (omega (arith, room))
+    w.ensures c.unwrap_or-next.ensures d.ensures c.unwrap_or.ensures (omega (arith, room))

@@ -6,11 +6,6 @@ use lib.Bits.{differ, xor_lt}
 use lib.Dec.{lit<}
 use Rattle.packet.proofs.crc.crc5_bit.Goals as goal
 
-same_digit : (x : ℕ) → x < 2 → differ x x ≡ 0
-same_digit zero h = refl
-same_digit (suc zero) h = refl
-same_digit (suc (suc x)) h = absurd (omega arith)
-
 other_digit : (x y : ℕ) → x < 2 → y < 2 → (x ≡ y → ⊥) → differ x y ≡ 1
 other_digit zero zero hx hy d = absurd (d refl)
 other_digit zero (suc zero) hx hy d = refl
@@ -19,11 +14,6 @@ other_digit (suc zero) zero hx hy d = refl
 other_digit (suc zero) (suc zero) hx hy d = absurd (d refl)
 other_digit (suc zero) (suc (suc y)) hx hy d = absurd (omega arith)
 other_digit (suc (suc x)) y hx hy d = absurd (omega arith)
-
-pub returns-then-c-bit : goal.returns-then-c-bit
-returns-then-c-bit c =
-    let a = c.args in
-    (rw (c.if-c-bit.true, same_digit a.bit (omega arith)), omega arith)
 
 pub returns-else-c-bit : goal.returns-else-c-bit
 returns-else-c-bit c =

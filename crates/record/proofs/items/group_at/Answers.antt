@@ -1,23 +1,43 @@
 -- `group_at` adds packet by packet. The invariant: what is left to do is what there was to do.
 -- Assumes nothing.
-use mathlib.Core.Path.{sym, ◌∙◌}
+use mathlib.Core.Path.{◌≡◌, ◌∙◌}
 use native.Mathlib.Omega.{arith}
-use Rattle.record.proofs.Spans.{walk_start, walk_on, packet_further, group_ended}
+use lib.ListN.{drop}
+use Rattle.std.specs.Prelude.{Ok, Some}
+use Rattle.std.proofs.Common.{rules}
+use Rattle.record.specs.Items.{group_of}
+use Rattle.record.specs.Reader.{look}
+use Rattle.record.specs.declared.look.Look.TheVariants.{Out}
+use Rattle.record.proofs.Looking.{out_at}
+use Rattle.record.proofs.Spans.{packet_on, walk_on, walked}
 use Rattle.record.proofs.items.group_at.Goals as goal
 
-pub loop-q-init : goal.loop-q-init
-loop-q-init c = walk_start c.args.s.now c.args.at (c.requires)
+pub loop-x-smaller : goal.loop-x-smaller
+loop-x-smaller c =
+    let l = c.loop-x in
+    let e : look (drop l.p.at c.args.s.now) ≡ Ok (Some (Out c.in-Ok-Some-Out.x)) = search rules in
+    omega (arith, out_at c.args.s.now l.p.at c.in-Ok-Some-Out.x e)
 
-pub packet_at-t-requires : goal.packet_at-t-requires
-packet_at-t-requires c = (c.loop-q.invariant.inside, c.loop-q.invariant.few)
+pub loop-x-preserved : goal.loop-x-preserved
+loop-x-preserved c =
+    let l = c.loop-x in
+    let e : look (drop l.p.at c.args.s.now) ≡ Ok (Some (Out c.in-Ok-Some-Out.x)) = search rules in
+    walk_on c.args.s.now c.args.at l.p _ l.invariant (packet_on c.args.s.now l.p c.in-Ok-Some-Out.x e ∙ rw c.if-x.false)
 
-pub loop-q-smaller : goal.loop-q-smaller
-loop-q-smaller c =
-    let o = packet_further c.args.s.now c.loop-q.p _ c.loop-q.invariant.inside (sym c.packet_at-t.ensures ∙ c.in-More.is) in
-    omega (arith, o.further, o.inside)
+pub returns-then-x : goal.returns-then-x
+returns-then-x c =
+    let l = c.loop-x in
+    let e : look (drop l.p.at c.args.s.now) ≡ Ok (Some (Out c.in-Ok-Some-Out.x)) = search rules in
+    walked c.args.s.now c.args.at l.p _ l.invariant (packet_on c.args.s.now l.p c.in-Ok-Some-Out.x e ∙ rw c.if-x.true)
 
-pub loop-q-preserved : goal.loop-q-preserved
-loop-q-preserved c = walk_on c.args.s.now c.args.at c.loop-q.p _ c.loop-q.invariant (sym c.packet_at-t.ensures ∙ c.in-More.is)
+pub returns-in_default : goal.returns-in_default
+unfolding group_of
+returns-in_default c = walked c.args.s.now c.args.at c.loop-x.p _ c.loop-x.invariant (search rules)
 
-pub returns-in-Ended : goal.returns-in-Ended
-returns-in-Ended c = sym (group_ended c.loop-q.invariant.fuel c.args.s.now c.loop-q.p _ (sym c.packet_at-t.ensures ∙ c.in-Ended.is)) ∙ c.loop-q.invariant.same
+pub returns-in_default-2 : goal.returns-in_default-2
+unfolding group_of
+returns-in_default-2 c = walked c.args.s.now c.args.at c.loop-x.p _ c.loop-x.invariant (search rules)
+
+pub returns-in_default-3 : goal.returns-in_default-3
+unfolding group_of
+returns-in_default-3 c = walked c.args.s.now c.args.at c.loop-x.p _ c.loop-x.invariant (search rules)

@@ -5,8 +5,8 @@ use Prim.Native.Nat.{◌-◌}
 use Rattle.record.proofs.Spans.{Walked}
 use Rattle.record.proofs.items.group_at.Given as goal
 
-abbrev pub invariant-loop-q : goal.invariant-loop-q
-invariant-loop-q l = Walked l.s l.at l.p
+abbrev pub invariant-loop-x : goal.invariant-loop-x
+invariant-loop-x l = Walked l.s l.at l.p
 
-abbrev pub decreases-loop-q : goal.decreases-loop-q
-decreases-loop-q l = length l.s - l.p.at
+abbrev pub decreases-loop-x : goal.decreases-loop-x
+decreases-loop-x l = length l.s - l.p.at

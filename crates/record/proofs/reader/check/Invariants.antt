@@ -5,8 +5,8 @@ use lib.ListN.{length}
 use Rattle.record.proofs.Turns.{Reached}
 use Rattle.record.proofs.reader.check.Given as goal
 
-abbrev pub invariant-loop-q : goal.invariant-loop-q
-invariant-loop-q l = Reached l.s l.two l.p
+abbrev pub invariant-loop-entry : goal.invariant-loop-entry
+invariant-loop-entry l = Reached l.s l.two l.p
 
-abbrev pub decreases-loop-q : goal.decreases-loop-q
-decreases-loop-q l = length l.s - l.p.at
+abbrev pub decreases-loop-entry : goal.decreases-loop-entry
+decreases-loop-entry l = length l.s - l.p.at

@@ -1,14 +1,8 @@
--- `put_pairs` stores the bytes of the pairs. The invariant: the first i are stored.
--- The measure is how many are left. Assumes nothing.
-use mathlib.Core.Path.{◌≡◌}
-use Prim.Native.Nat.{◌-◌, ◌≤◌}
-use lib.ListN.{take}
-use lib.Seq.{sets}
+-- `put_pairs` puts the byte of each pair.
+-- Assumes nothing.
+use Rattle.std.proofs.Common.{◌≡◌, ◌<◌, ℕ, get_or}
 use Rattle.script.specs.Bytes.{pairs_of}
 use Rattle.script.proofs.bytes.put_pairs.Given as goal
 
 abbrev pub invariant-loop-i : goal.invariant-loop-i
-invariant-loop-i l = (l.out ≡ sets l.initial.out 0 (take l.i (pairs_of l.text))) × (l.i ≤ l.n)
-
-abbrev pub decreases-loop-i : goal.decreases-loop-i
-decreases-loop-i l = l.n - l.i
+invariant-loop-i l = (k : ℕ) → k < l.i → get_or l.byte-items k 0 ≡ get_or (pairs_of l.pairs.digits.now) k 0

@@ -1,12 +1,7 @@
 -- `value` is `value_of`. The invariant: the digits passed spell n, and n is at most `most`.
--- The measure is what is left of the digits. Assumes nothing.
-use Prim.Native.Nat.{◌-◌}
-use lib.ListN.{length}
+-- Assumes nothing.
 use Rattle.script.proofs.Spelling.{Spelt}
 use Rattle.script.proofs.number.value.Given as goal
 
-abbrev pub invariant-loop-i : goal.invariant-loop-i
-invariant-loop-i l = Spelt l.base l.most l.digits l.n l.i
-
-abbrev pub decreases-loop-i : goal.decreases-loop-i
-decreases-loop-i l = length l.digits - l.i
+abbrev pub invariant-loop-b : goal.invariant-loop-b
+invariant-loop-b l = Spelt l.base l.most l.digits l.n l.b-index

@@ -1,59 +1,21 @@
--- `put_pairs` puts two digits a byte where they fit, and `-` for no byte.
+-- `put_pairs` puts `-` for no bytes, and else two digits a byte.
 -- Assumes nothing.
-use mathlib.Core.Path.{sym, ap, ◌∙◌}
-use Prim.Native.Nat.{ℕ, ◌+◌, ◌*◌}
-use borrow.Author.Tests.{leb-true, lt-leb}
-use lib.ListN.{length}
+use Rattle.std.proofs.Common.{◌≡◌, ◌≤◌, ◌+◌, ◌*◌, ◌∙◌, ap, sym, length, arith}
 use lib.Seq.{sets}
-use Rattle.script.specs.Text.{pairs_text}
-use Rattle.script.proofs.Placing.{placed_there, placed_not, pairs_none, pairs_some, pairs_length, pairs_fit}
-use native.Mathlib.Omega.{arith}
+use Rattle.script.proofs.Placing.{placed_there, placed_not, pairs_none, pairs_some, pairs_length}
 use Rattle.script.proofs.text.put_pairs.Goals as goal
 
-pub returns-then-bytes-eq0 : goal.returns-then-bytes-eq0
-returns-then-bytes-eq0 c =
-    let put = c.put in
-    let if1 = c.if-bytes-eq0.true in
-    let args = c.args in
-    rw (pairs_none args.bytes.now if1) put.ensures
+pub returns-then-is_empty : goal.returns-then-is_empty
+returns-then-is_empty c = rw (pairs_none c.args.bytes.now (grind arith)) c.put.ensures
 
-pub returns-then-out-bytes : goal.returns-then-out-bytes
-returns-then-out-bytes c =
-    let if1 = c.if-bytes-eq0.false in
-    let args = c.args in
-    placed_not args.out.now args.at (pairs_text args.bytes.now) (pairs_fit args.out.now args.at args.bytes.now if1 ∙ lt-leb (args.at + 2 * length args.bytes.now) (length args.out.now) (omega arith))
-
-pub overflow_mul-n : goal.overflow_mul-n
-overflow_mul-n c =
-    omega (arith)
-
-pub returns-then-not-has_room : goal.returns-then-not-has_room
-returns-then-not-has_room c =
-    let if3 = c.if-not-has_room.true in
-    let has_room = c.has_room in
-    let if1 = c.if-bytes-eq0.false in
-    let args = c.args in
-    placed_not args.out.now args.at (pairs_text args.bytes.now) (pairs_fit args.out.now args.at args.bytes.now if1 ∙ sym has_room.ensures ∙ if3)
-
-pub put_bytes-requires : goal.put_bytes-requires
-put_bytes-requires c =
-    let if3 = c.if-not-has_room.false in
-    let has_room = c.has_room in
-    let args = c.args in
-    leb-true (args.at + 2 * length args.bytes.now) (length args.out.now) (sym has_room.ensures ∙ if3)
-
-pub overflow_add-result : goal.overflow_add-result
-overflow_add-result c =
-    let if3 = c.if-not-has_room.false in
-    let has_room = c.has_room in
-    let args = c.args in
-    omega (arith, leb-true (args.at + 2 * length args.bytes.now) (length args.out.now) (sym has_room.ensures ∙ if3))
+pub returns-in_default : goal.returns-in_default
+returns-in_default c =
+    let n = pairs_length c.args.bytes.now (grind arith) in
+    placed_not c.args.out.now c.args.at _ (rw n (grind arith))
 
 pub returns : goal.returns
 returns c =
-    let put-bytes = c.put_bytes in
-    let if3 = c.if-not-has_room.false in
-    let has_room = c.has_room in
-    let if1 = c.if-bytes-eq0.false in
-    let args = c.args in
-    placed_there args.out.now args.at (pairs_text args.bytes.now) _ _ (pairs_fit args.out.now args.at args.bytes.now if1 ∙ sym has_room.ensures ∙ if3) (put-bytes.ensures ∙ ap (sets args.out.now args.at) (sym (pairs_some args.bytes.now if1))) (ap (λ (k : ℕ). args.at + k) (pairs_length args.bytes.now if1))
+    let bytes = c.args.bytes.now in
+    let n = pairs_length bytes (grind arith) in
+    let e : (c.args.at + 2 * length bytes ≤ length c.args.out.now) × (c.in-Some.end ≡ c.args.at + 2 * length bytes) = grind arith in
+    placed_there c.args.out.now c.args.at _ _ _ (rw n e.0) (c.put_bytes.ensures ∙ ap (sets c.args.out.now c.args.at) (sym (pairs_some bytes (grind arith)))) (rw n e.1)

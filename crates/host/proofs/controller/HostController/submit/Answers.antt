@@ -1,27 +1,13 @@
--- `HostController::submit` is `submit_of`: refused, or accepted. Assumes nothing.
-use mathlib.Core.Path.{sym, ◌∙◌}
-use Rattle.host.proofs.Submitting.{submit_refused, submit_accepted, submit_small}
+-- `HostController::submit` is `submit_of`: a refused one changes nothing. Assumes nothing.
+use Rattle.std.proofs.Common.{sym, ap, ◌∙◌}
+use Rattle.host.specs.Submit.{submit_of}
+use Rattle.host.specs.Reply.{submit_reply}
+use Rattle.host.proofs.Replies.{submit_row_lem}
 use Rattle.host.proofs.controller.HostController.submit.Goals as goal
 
-pub returns-in_default : goal.returns-in_default
-returns-in_default c =
-    let args = c.args in
-    let submit-checks = c.submit_checks-answer in
-    submit_refused args.self args.caller args.fields args.frame submit-checks.result _ submit-checks.ensures c.in_default.is
-
-pub with_fields-self-requires : goal.with_fields-self-requires
-with_fields-self-requires c =
-    let args = c.args in
-    let submit-checks = c.submit_checks-answer in
-    submit_small args.self args.caller args.fields (sym submit-checks.ensures ∙ c.in-Accepted.is)
-
-pub returns : goal.returns
-returns c =
-    let args = c.args in
-    let submit-checks = c.submit_checks-answer in
-    let is_idle = c.is_idle in
-    let requested = c.requested in
-    let submits = c.submits-dispatcher in
-    let with-fields = c.with_fields-self in
-    submit_accepted args.self args.caller args.fields args.frame submit-checks.result is_idle.result requested.result with-fields.result submits.result submit-checks.ensures
-    c.in-Accepted.is is_idle.ensures requested.ensures with-fields.ensures submits.ensures
+pub returns-in-Err : goal.returns-in-Err
+unfolding submit_of
+returns-in-Err c =
+    let a = c.args in
+    let e = sym c.submit_checks.ensures ∙ c.in-Err.is in
+    (simp e, ap submit_reply (sym e) ∙ submit_row_lem a.self a.caller a.fields a.frame)

@@ -1,5 +1,6 @@
 -- `BitSet::contains` meets its contract: no number above 31 is a member. Assumes nothing.
-use mathlib.Core.Path.{sym}
+use mathlib.Core.Path.{sym, ◌∙◌}
+use borrow.Author.Tests.{le-ltb}
 use native.Mathlib.Omega.{arith}
 use Rattle.pool.proofs.Sets.{has_past}
 use Rattle.pool.proofs.Words.{shifted, and_has}
@@ -13,4 +14,4 @@ returns-then-n-lt32 c =
 pub returns-else-n-lt32 : goal.returns-else-n-lt32
 returns-else-n-lt32 c =
     let a = c.args in
-    sym (has_past 32 a.self.0 a.n (omega arith) (omega arith))
+    le-ltb _ _ c.if-n-lt32.false ∙ sym (has_past 32 a.self.0 a.n (omega arith) (omega arith))

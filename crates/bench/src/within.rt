@@ -1,9 +1,0 @@
-// A length cut to what is lent.
-ghost use Rattle.std.specs.Counts.{IsPrefixLen};
-
-// `n`, or the length of the bytes where that is less.
-pub fn within(n: usize, s: &[u8]) -> usize
-    ensures { IsPrefixLen result s.now }
-{
-    if n < s.len() { n } else { s.len() }
-}

@@ -1,0 +1,2 @@
+-- The root of the specification.
+pub mod Hex

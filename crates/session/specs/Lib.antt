@@ -1,0 +1,3 @@
+-- The root of the specification.
+pub mod Leaves
+pub mod Prints

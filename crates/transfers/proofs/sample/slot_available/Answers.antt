@@ -1,8 +1,0 @@
--- `slot_available` is `available`. Assumes nothing.
-use Rattle.transfers.proofs.sample.slot_available.Goals as goal
-
-pub returns-then-slot : goal.returns-then-slot
-returns-then-slot c = simp (c.if-slot.true, c.bit.ensures)
-
-pub returns-else-slot : goal.returns-else-slot
-returns-else-slot c = simp (c.if-slot.false, c.bit-else-slot.ensures)
