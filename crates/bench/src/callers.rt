@@ -1,4 +1,5 @@
 // The driver held in a `HostController`: a caller comes, a look tells its turn, and it starts.
+// Its loop repeats; nothing is indexed.
 use crate::Work;
 use crate::control::{TRANSFERS, setup};
 use crate::waiting::{STEPS, nothing};

@@ -78,7 +78,7 @@ fn read_start(kind: Kind, line: &[u8], out: &mut [u8; 131072]) -> Option<Command
     Some(Command::Start(kind, bytes_at(line, 1, out)?))
 }
 
-// `start-bulk-in LEN`.
+// `start-bulk-in LEN`. The readers around it stay: one over them would take what reads the field as a closure, for three lines each.
 #[tactic(auto, unfolding(crate::specs::Lines::start_bulk_in_of))]
 fn read_start_bulk_in(line: &[u8]) -> Option<Command>
     ensures { unwrap_or result unread ≡ start_bulk_in_of line.now }

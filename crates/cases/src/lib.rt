@@ -12,7 +12,7 @@ use std::io::{Read, Write};
 
 const LONGEST: usize = 600000;
 
-// What the inputs are.
+// What the inputs are. An enum: a function passed in would ask of `print_cases`' callers that it may be called.
 #[derive(Clone, Copy)]
 pub enum Kind {
     Records,

@@ -1,5 +1,5 @@
 // Whether two states have the same turns, shares, spent counts and frame, and callers that came with the same numbers.
-// By hand: a derived equality would compare more than these, and stand in four crates below, none of which uses one.
+// By hand: a derived equality would compare more than these, and stand in four crates below, none of which compares these types.
 use dispatcher::{Caller, Dispatcher};
 use host::controller::HostController;
 use host::fields::{BulkFields, ControlFields, Fields};

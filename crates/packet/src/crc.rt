@@ -65,7 +65,7 @@ fn crc5_bit(c: u16, bit: u16) -> u16
     if c % 2 == bit { c / 2 } else { (c / 2) ^ 0x14 }
 }
 
-// CRC5 of the low eleven bits.
+// CRC5 of the low eleven bits: eleven times the same, nothing is indexed.
 #[tactic(auto, unfolding(crate::specs::Crc::crc5_of, crate::specs::Crc::crc_bits))]
 pub fn crc5(v: u16) -> u16
     ensures { (result ≡ crc5_of v) × (result ≤ 31) }

@@ -38,7 +38,7 @@ fn fill(bytes: &mut [u8]) {
     }
 }
 
-// The record's CRC16, or how many bytes its packets have.
+// The record's CRC16, or how many bytes its packets have, by the input's letter.
 fn run(letter: u8, record: &[u8], out: &mut [u8]) -> usize {
     match letter {
         b'C' => crc16(record) as usize,

@@ -1,4 +1,4 @@
-// What the listings print alike. `print_text`, `print_decimal`, `print_number` and `print_byte` are one macro each: docs/CONTRACTS.md promises what each function here appends.
+// What the listings print alike. `print_text`, `print_decimal`, `print_number` and `print_byte` are one `write!` or `write_all` each: docs/CONTRACTS.md promises what each function here appends.
 #![tactic(auto)]
 
 ghost use Rattle.std.specs.Prelude.{Some, ◌∷◌, ◌++◌, OnOk, codes};

@@ -50,7 +50,7 @@ fn read_bulk(line: &[u8]) -> Option<Bulk>
     })
 }
 
-// The fields that every control has, and LEN.
+// The fields that every control has, and LEN. What follows of controls and of bulks stays apart: the fields differ in more than a type.
 #[tactic(auto, unfolding(crate::specs::Lines::control_length_of))]
 pub fn read_control_length(line: &[u8]) -> Option<Control>
     ensures { result ≡ control_length_of line.now }

@@ -2,7 +2,7 @@
 ghost use Rattle.std.specs.Prelude.{◌≡◌, ◌+◌, ◌≤◌, length, take, drop};
 ghost use Rattle.script.specs.Parts.{up_to, past, part_of, parts_of, same_text};
 
-// Where the first separator stands, or the text's length.
+// Where the first separator stands, or the text's length, and no Option: its clause says where callers cut, with a separator or without.
 pub fn end_of(text: &[u8], sep: u8) -> usize
     ensures { (result ≤ length text.now) × (take result text.now ≡ up_to sep text.now)
         × (drop (result + 1) text.now ≡ past sep text.now) }

@@ -32,7 +32,7 @@ pub fn after_field(line: &[u8]) -> &[u8]
     rest(line, SPACE)
 }
 
-// The next five differ in the type that a number is put into. They stay, as docs/CONTRACTS.md names them; one over `TryFrom` would be no plainer, as each would still name its type and its most.
+// The next five differ in the type that a number is put into. docs/CONTRACTS.md names three of them; one over `TryFrom` would be no plainer, as each would still name its type and its most.
 
 // A number up to 255.
 #[tactic(auto, unfolding(crate::specs::Typed::byte_at))]

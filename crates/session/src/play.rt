@@ -17,7 +17,7 @@ use std::io::Write;
 use transfers::driver::DeskRule;
 
 // `length` bytes of `buf` are begin's buffer, `own` has a `buffer` line's bytes: as many as the next step is lent, where it is.
-// `bytes` are those that the line stored.
+// `bytes` are those that the line stored. Rooms of a fixed size with counts beside them: nothing here allocates.
 #[derive(Drop)]
 pub struct Session {
     pub state: State,
@@ -28,6 +28,7 @@ pub struct Session {
     pub bytes: [u8; 131072],
 }
 
+// No `From`: the types on both sides are of other crates.
 fn desk_rule(rule: Rule) -> DeskRule
     ensures { result ≡ desk_rule_of rule }
 {

@@ -14,7 +14,7 @@ pub(crate) enum Turn {
 }
 
 // `from` to `to` of the chunk is still to be read. The first `length` bytes of the line are those of line number `number` if it is whole,
-// else of the next one, of which a part is there if `begun`; there was no room for more if `long`.
+// else of the next one, of which a part is there if `begun`; there was no room for more if `long`. The counts stand beside rooms of a fixed size: nothing here allocates.
 #[derive(Drop)]
 pub(crate) struct Lines {
     chunk: [u8; 65536],

@@ -15,7 +15,7 @@ use transfers::answers::Armed;
 use transfers::driver::{DeskRule, Driver};
 
 // `memory` bytes of packet memory and `words` of the log are lent to the calls. `bulk` is begin's kind. The record has `used` bytes,
-// or was refused.
+// or was refused. The counts stand beside rooms of a fixed size: nothing here allocates.
 #[derive(Drop)]
 pub struct State {
     pub driver: Driver,

@@ -99,7 +99,7 @@ impl Driver {
         self.begun(b)
     }
 
-    // `bulk_in_transfer` up to its first poll. IN and OUT are calls of their own, here and of steps, as in the Rust and in docs/GLUE.md: two lines each over what they share.
+    // `bulk_in_transfer` up to its first poll. IN and OUT are calls of their own, here and of steps, as in the Rust and in docs/GLUE.md: they share `begun`, `stepped` and the checks.
     #[tactic(auto, using(crate::proofs::Replies::bulk_in_row))]
     pub fn begin_bulk_in(
         self,

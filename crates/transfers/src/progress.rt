@@ -218,7 +218,7 @@ pub(crate) fn start_out(
     }
 }
 
-// A control transfer goes into its data or status stage.
+// A control transfer goes into its data or status stage, IN or OUT: two functions, as `start_in` and `start_out` are.
 pub(crate) fn enter_in(x: Request, status: bool, n: u16, log: &mut Log<'_>) -> Progress
     requires { log.old.used ≤ 40 }
     ensures { (m b : List ℕ) → Tells (enters_in x status n m b) log.old result log.new }

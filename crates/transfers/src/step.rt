@@ -28,6 +28,7 @@ fn lent(status: bool, buf: &[u8]) -> &[u8]
     if status { &[] } else { buf }
 }
 
+// `found`, the sample's `buffers`, the caller's buffer, packet memory and the log are read or lent apart from here on: one struct of them would lend all of them to what needs one.
 // A stage that leaves the caller's buffer: an IN stage here is a status stage, which fills the Rust's `&mut []`.
 fn stage_out(
     found: Found,
