@@ -3,21 +3,24 @@ use crate::state::Callers;
 use host::controller::{HostController, SubmitResult};
 use script::command::{Bulk, Control};
 use session::begin::{extras_of, kind_of, packet_of};
-use session::print::{print_answer, print_block_end};
-use std::io::Write;
-use std::{fmt, io};
+use session::output::{Output, put_number};
+use session::print::{Came, print_answer, print_block_end};
 use transfers::host_controller::DataPhase;
+use transfers::refusal::Refusal;
 use transfers::wire::Direction;
 
 // Whose turn it is, as an answer's line spells it.
 #[derive(Clone, Copy)]
 struct Turn(Option<u8>);
 
-impl fmt::Display for Turn {
-    fn fmt<W: fmt::Write>(&self, f: &mut fmt::Formatter<W>) -> fmt::Result {
+impl Came for Turn {
+    fn put(self, out: &mut Output) {
         match self.0 {
-            Some(c) => write!(f, "turn {c}"),
-            None => write!(f, "nobody"),
+            Some(c) => {
+                out.put(b"turn");
+                put_number(out, c as u64);
+            }
+            None => out.put(b"nobody"),
         }
     }
 }
@@ -41,19 +44,13 @@ fn submit_bulk(
 }
 
 impl Callers {
-    fn submitted<W: Write>(&mut self, r: SubmitResult, out: &mut W) -> io::Result<()> {
+    fn submitted(&mut self, r: SubmitResult, out: &mut Output) {
         self.set_host(r.next);
-        print_answer(out, r.answer.map(|()| "waiting"))?;
+        print_answer(out, r.answer.map(|()| "waiting"));
         print_block_end(out)
     }
 
-    pub fn come_control<W: Write>(
-        &mut self,
-        caller: u8,
-        phase: DataPhase,
-        c: Control,
-        out: &mut W,
-    ) -> io::Result<()> {
+    pub fn come_control(&mut self, caller: u8, phase: DataPhase, c: Control, out: &mut Output) {
         let r = self.host().submit_control(
             caller,
             c.address,
@@ -67,21 +64,15 @@ impl Callers {
         self.submitted(r, out)
     }
 
-    pub fn come_bulk<W: Write>(
-        &mut self,
-        caller: u8,
-        direction: Direction,
-        b: Bulk,
-        out: &mut W,
-    ) -> io::Result<()> {
+    pub fn come_bulk(&mut self, caller: u8, direction: Direction, b: Bulk, out: &mut Output) {
         let r = submit_bulk(self.host(), caller, direction, b, self.frame);
         self.submitted(r, out)
     }
 
-    pub fn look<W: Write>(&mut self, out: &mut W) -> io::Result<()> {
+    pub fn look(&mut self, out: &mut Output) {
         let t = self.host().whose_turn(self.frame);
         self.set_host(t.next);
-        writeln!(out, "answer {}", Turn(t.answer))?;
+        print_answer(out, Ok::<Turn, Refusal>(Turn(t.answer)));
         print_block_end(out)
     }
 }

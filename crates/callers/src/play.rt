@@ -2,30 +2,22 @@
 use crate::line::{Command, parse};
 use crate::state::Callers;
 use script::command::Call;
+use session::output::Output;
 use session::player::Play;
 use session::print::print_ok;
-use std::io;
-use std::io::Write;
 
 impl Callers {
     // `fresh` and `rule` bring a fresh dispatcher too, of these shares.
-    fn run<W: Write>(
-        &mut self,
-        number: usize,
-        call: Call,
-        quota: [u32; 8],
-        out: &mut W,
-    ) -> io::Result<()> {
-        self.session.run(number, call, out)?;
+    fn run(&mut self, number: usize, call: Call, quota: [u32; 8], out: &mut Output) {
+        self.session.run(number, call, out);
         if matches!(call, Call::Fresh | Call::Rule(_)) {
             self.refresh(quota);
         }
-        Ok(())
     }
 }
 
 impl Play for Callers {
-    fn play<W: Write>(&mut self, number: usize, text: &[u8], out: &mut W) -> io::Result<()> {
+    fn play(&mut self, number: usize, text: &[u8], out: &mut Output) {
         match parse(text, &mut self.session.bytes) {
             Command::ComeControl(caller, phase, c) => self.come_control(caller, phase, c, out),
             Command::ComeBulk(caller, direction, b) => self.come_bulk(caller, direction, b, out),

@@ -3,17 +3,17 @@ use crate::line::Kind;
 use crate::state::Callers;
 use host::start::StartResult;
 use session::log::Log;
-use session::print::print_answer;
-use std::io::Write;
-use std::{fmt, io};
+use session::output::{Output, put_number};
+use session::print::{Came, print_answer};
 
 // The caller whose transfer a start begins, as the answer's line spells it.
 #[derive(Clone, Copy)]
 struct Started(u8);
 
-impl fmt::Display for Started {
-    fn fmt<W: fmt::Write>(&self, f: &mut fmt::Formatter<W>) -> fmt::Result {
-        write!(f, "started {}", self.0)
+impl Came for Started {
+    fn put(self, out: &mut Output) {
+        out.put(b"started");
+        put_number(out, self.0 as u64);
     }
 }
 
@@ -31,7 +31,7 @@ impl Callers {
     }
 
     // A bulk IN's buffer is all 0 at first.
-    pub fn start<W: Write>(&mut self, kind: Kind, count: usize, out: &mut W) -> io::Result<()> {
+    pub fn start(&mut self, kind: Kind, count: usize, out: &mut Output) {
         let mut log = Log::new();
         let old = self.session.state.pm;
         if matches!(kind, Kind::BulkIn) {
@@ -43,7 +43,7 @@ impl Callers {
             self.session.keep(count, !matches!(kind, Kind::Control));
         }
         self.set_host(r.next);
-        print_answer(out, r.answer.map(|caller| Started(caller)))?;
+        print_answer(out, r.answer.map(|caller| Started(caller)));
         self.session
             .state
             .finish(r.armed, r.writes, &old, &log, out)

@@ -5,16 +5,17 @@ use host::fields::Fields;
 use session::play::Session;
 use transfers::driver::DeskRule;
 
-#[derive(Drop)]
+#[derive(Clone, Copy)]
 pub struct Callers {
     pub session: Session,
-    dispatcher: Dispatcher,
-    submissions: [Fields; 8],
+    pub dispatcher: Dispatcher,
+    pub submissions: [Fields; 8],
     quota: [u32; 8],
     pub frame: u32,
 }
 
 impl Callers {
+    #[inline(always)]
     pub(crate) fn new() -> Callers {
         let quota = [u32::MAX; 8];
         let HostController {

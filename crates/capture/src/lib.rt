@@ -13,8 +13,9 @@ ghost use Rattle.export.specs.Exported.{Exported, export_reply};
 use crate::pcap::{FILE_HEAD, frame_head};
 use export::{export, lengths_at};
 use input::{first, is_too_long};
-use printing::{Hex, print_end, print_refused, print_text};
+use printing::{print_end, print_refused, print_text};
 use record::refusal::Refusal;
+use script::text::Text;
 use std::io;
 use std::io::Write;
 
@@ -25,10 +26,18 @@ pub enum Form {
     Pcap,
 }
 
+// A packet's bytes as hexadecimal pairs: a line is written at once.
+fn print_line<W: Write>(out: &mut W, bytes: &[u8]) -> io::Result<()> {
+    let mut text = Text::<256>::new();
+    text.put_pairs(bytes);
+    text.put(b"\n");
+    print_text(out, text.text())
+}
+
 // Packet i.
 fn print_packet<W: Write>(out: &mut W, form: Form, i: usize, bytes: &[u8]) -> io::Result<()> {
     match form {
-        Form::Lines => writeln!(out, "{}", Hex(bytes)),
+        Form::Lines => print_line(out, bytes),
         Form::Pcap => {
             print_text(out, &frame_head(i, bytes.len()))?;
             print_text(out, bytes)

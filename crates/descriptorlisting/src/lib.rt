@@ -7,38 +7,74 @@ ghost use Rattle.descriptorlisting.specs.Turn.{turn_of};
 
 use descriptor::walk::{Descriptor, Endpoint, answer_at, descriptor_at};
 use input::{TOO_LONG, is_too_long};
-use printing::{print_end, print_refused};
+use printing::{print_byte, print_decimal, print_end, print_number, print_refused, print_text};
 use std::io::Write;
 use std::{fmt, io};
 
-// bDescriptorType, printed by its name in USB 2.0 table 9-5.
+// The descriptor types of USB 2.0 table 9-5.
 #[derive(Clone, Copy)]
-struct DescriptorType(u8);
+enum DescriptorType {
+    Device,
+    Configuration,
+    String,
+    Interface,
+    Endpoint,
+    DeviceQualifier,
+    OtherSpeedConfiguration,
+    InterfacePower,
+}
 
 impl fmt::Display for DescriptorType {
     fn fmt<W: fmt::Write>(&self, f: &mut fmt::Formatter<W>) -> fmt::Result {
-        match self.0 {
-            1 => f.write_str("device"),
-            2 => f.write_str("configuration"),
-            3 => f.write_str("string"),
-            4 => f.write_str("interface"),
-            5 => f.write_str("endpoint"),
-            6 => f.write_str("device_qualifier"),
-            7 => f.write_str("other_speed_configuration"),
-            8 => f.write_str("interface_power"),
-            other => write!(f, "0x{other:02x}"),
-        }
+        f.write_str(match self {
+            DescriptorType::Device => "device",
+            DescriptorType::Configuration => "configuration",
+            DescriptorType::String => "string",
+            DescriptorType::Interface => "interface",
+            DescriptorType::Endpoint => "endpoint",
+            DescriptorType::DeviceQualifier => "device_qualifier",
+            DescriptorType::OtherSpeedConfiguration => "other_speed_configuration",
+            DescriptorType::InterfacePower => "interface_power",
+        })
+    }
+}
+
+// The type that a bDescriptorType names.
+fn type_of(number: u8) -> Option<DescriptorType> {
+    match number {
+        1 => Some(DescriptorType::Device),
+        2 => Some(DescriptorType::Configuration),
+        3 => Some(DescriptorType::String),
+        4 => Some(DescriptorType::Interface),
+        5 => Some(DescriptorType::Endpoint),
+        6 => Some(DescriptorType::DeviceQualifier),
+        7 => Some(DescriptorType::OtherSpeedConfiguration),
+        8 => Some(DescriptorType::InterfacePower),
+        _ => None,
+    }
+}
+
+// A space, `0x` and two digits.
+fn print_hex_byte<W: Write>(out: &mut W, b: u8) -> io::Result<()> {
+    print_text(out, b" 0x")?;
+    print_byte(out, b)
+}
+
+// A bDescriptorType by its name, or its number where it has none.
+fn print_type<W: Write>(out: &mut W, number: u8) -> io::Result<()> {
+    match type_of(number) {
+        Some(named) => write!(out, " {named}"),
+        None => print_hex_byte(out, number),
     }
 }
 
 // Its direction is bit 7 of bEndpointAddress.
 fn print_endpoint<W: Write>(out: &mut W, e: Endpoint) -> io::Result<()> {
-    let direction = if e.address < 128 { "out" } else { "in" };
-    write!(
-        out,
-        " 0x{:02x} {direction} {} {} {}",
-        e.address, e.kind, e.size, e.interval
-    )
+    let direction = if e.address < 128 { " out " } else { " in " };
+    print_hex_byte(out, e.address)?;
+    write!(out, "{direction}{}", e.kind)?;
+    print_number(out, e.size as usize)?;
+    print_number(out, e.interval as usize)
 }
 
 // Position, length and type, and an endpoint's fields.
@@ -50,11 +86,13 @@ fn print_descriptor<W: Write>(
 ) -> io::Result<()>
     requires { 2 ≤ length part.now }
 {
-    write!(out, "{at} {} {}", part.len(), DescriptorType(part[1]))?;
+    print_decimal(out, at as u64)?;
+    print_number(out, part.len())?;
+    print_type(out, part[1])?;
     if let Some(e) = found.endpoint {
         print_endpoint(out, e)?;
     }
-    writeln!(out)
+    print_text(out, b"\n")
 }
 
 // What the walk answers at a position, and the next one; `count` descriptors are listed already.

@@ -8,7 +8,7 @@ ghost use Rattle.record.specs.Refusal.{check_reply};
 ghost use Rattle.record.specs.Verdict.{Verdict};
 
 use input::is_too_long;
-use printing::{Hex, print_end, print_refused};
+use printing::{Hex, print_decimal, print_end, print_number, print_refused, print_text};
 use record::items::{BulkItem, ControlItem, ItemAnswer, Items};
 use record::look::version;
 use record::reader::check;
@@ -24,13 +24,20 @@ fn setup_at(s: &[u8], at: usize) -> &[u8] {
 }
 
 fn print_control<W: Write>(out: &mut W, s: &[u8], c: ControlItem) -> io::Result<()> {
-    let setup = Hex(setup_at(s, c.setup));
-    writeln!(out, "control {} {setup} {}", c.address, c.count)
+    print_text(out, b"control ")?;
+    print_decimal(out, c.address as u64)?;
+    write!(out, " {}", Hex(setup_at(s, c.setup)))?;
+    print_number(out, c.count)?;
+    print_text(out, b"\n")
 }
 
 fn print_bulk<W: Write>(out: &mut W, b: BulkItem) -> io::Result<()> {
-    let pid = b.pid as u8;
-    writeln!(out, "bulk {} {} {pid} {}", b.address, b.endpoint, b.count)
+    print_text(out, b"bulk ")?;
+    print_decimal(out, b.address as u64)?;
+    print_number(out, b.endpoint as usize)?;
+    print_number(out, b.pid as usize)?;
+    print_number(out, b.count)?;
+    print_text(out, b"\n")
 }
 
 // The items that didn't fail.
@@ -46,7 +53,9 @@ fn print_items<W: Write>(out: &mut W, s: &[u8]) -> io::Result<()> {
 }
 
 fn print_transfers<W: Write>(out: &mut W, s: &[u8], count: usize) -> io::Result<()> {
-    writeln!(out, "WLG {}", version(s))?;
+    print_text(out, b"WLG ")?;
+    print_decimal(out, version(s) as u64)?;
+    print_text(out, b"\n")?;
     print_items(out, s)?;
     print_end(out, count)
 }

@@ -2,10 +2,9 @@
 use script::command::{Bulk, Control};
 use session::begin::{extras_of, kind_of, packet_of};
 use session::log::Log;
+use session::output::Output;
 use session::play::Session;
 use session::print::print_answer;
-use std::io;
-use std::io::Write;
 use transfers::control::Begun;
 use transfers::host_controller::DataPhase;
 use transfers::wire::Direction;
@@ -87,7 +86,7 @@ impl Begin {
     }
 
     // An IN's buffer is all 0 at first.
-    pub fn play<W: Write>(self, s: &mut Session, out: &mut W) -> io::Result<()> {
+    pub fn play(self, s: &mut Session, out: &mut Output) {
         let mut log = Log::new();
         let old = s.state.pm;
         if self.is_in() {
@@ -99,7 +98,7 @@ impl Begin {
             s.keep(self.count(), self.is_bulk());
         }
         s.state.driver = begun.next;
-        print_answer(out, begun.answer.map(|()| "begun"))?;
+        print_answer(out, begun.answer.map(|()| "begun"));
         s.state.finish(begun.armed, begun.writes, &old, &log, out)
     }
 }

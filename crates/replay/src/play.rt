@@ -2,10 +2,9 @@
 use crate::begin::Begin;
 use script::command::Command;
 use script::line::parse;
+use session::output::Output;
 use session::play::Session;
 use session::player::Play;
-use std::io;
-use std::io::Write;
 use transfers::host_controller::DataPhase;
 use transfers::wire::Direction;
 
@@ -15,6 +14,7 @@ pub struct Replay {
 }
 
 impl Replay {
+    #[inline(always)]
     pub(crate) fn new() -> Replay {
         Replay {
             session: Session::new(),
@@ -23,7 +23,7 @@ impl Replay {
 }
 
 impl Play for Replay {
-    fn play<W: Write>(&mut self, number: usize, text: &[u8], out: &mut W) -> io::Result<()> {
+    fn play(&mut self, number: usize, text: &[u8], out: &mut Output) {
         let begin = match parse(text, &mut self.session.bytes) {
             Command::ControlIn(c) => Begin::Control(DataPhase::In, c),
             Command::ControlOut(c) => Begin::Control(DataPhase::Out, c),

@@ -2,3 +2,4 @@ pub mod Walks
 pub mod Spelling
 pub mod Storing
 pub mod Placing
+pub mod Decimals

@@ -2,18 +2,19 @@
 use mathlib.Core.Path.{◌≡◌, refl, sym, ap, ◌∙◌}
 use mathlib.Core.Bool.{Bool, true, false, cond, not, ◌&&◌}
 use mathlib.Core.List.{List, [], ◌∷◌}
-use Prim.Native.Nat.{ℕ, zero, suc, ◌+◌, ◌≤◌}
+use Prim.Native.Nat.{ℕ, zero, suc, ◌+◌}
 use native.Mathlib.Omega.{arith}
 use lib.Dec.{eqb}
 use lib.ListN.{length, get_or, take, drop}
-use Rattle.std.proofs.Common.{nat_eq, zero-add}
-use Rattle.std.specs.Prelude.{position, unwrap_or, slice_get}
-use Rattle.std.proofs.lemmas.List.Sums.{prefix_len-le-length}
+use Rattle.std.proofs.Common.{nat_eq}
+use Rattle.std.specs.Prelude.{position, unwrap_or, slice_get, count_by}
+use Rattle.std.proofs.lemmas.List.Sums.{prefix_len-le-length, sum_by-cons}
 use Rattle.std.proofs.Math.Bool.{and-false}
 use Rattle.std.proofs.lemmas.Bool.Decides.{nat_tests}
-use Rattle.std.specs.List.{position_or_len, slice_split, onto_first}
+use Rattle.std.specs.List.{position_or_len, slice_split, onto_first, starts_with}
 use Rattle.std.specs.Cmp.Lexicographic.{pointwise}
 use Rattle.script.specs.Parts.{up_to, past, part_of, parts_of, same_text}
+use Rattle.script.specs.Bytes.{is_seq}
 
 -- What stands before the first separator, and after it.
 pub before : (sep : ℕ) (text : List ℕ) → take (position_or_len (λ b. nat_eq b sep) text) text ≡ up_to sep text
@@ -41,25 +42,11 @@ after sep (b ∷ bs) = go (eqb b sep) (after sep bs)
 pub within : (p : ℕ → Bool) (text : List ℕ) → unwrap_or (position p text) (length text) ≡ position_or_len p text
 within p text = grind (arith, nat_tests, prefix_len-le-length (λ x. not (p x)) text)
 
--- As many as std's split gives.
-parts_least : (sep : ℕ) (text : List ℕ) → 1 ≤ parts_of sep text
+-- One more than std counts of separators.
+pub counted_parts : (sep : ℕ) (text : List ℕ) → 1 + count_by (λ b. nat_eq b sep) text ≡ parts_of sep text
 unfolding parts_of
-parts_least sep [] = omega arith
-parts_least sep (b ∷ bs) = omega (arith, parts_least sep bs)
-
-onto_length : (b : ℕ) (q : List (List ℕ)) → 1 ≤ length q → length (onto_first b q) ≡ length q
-onto_length b [] h = absurd (omega arith)
-onto_length b (p ∷ ps) h = refl
-
-pub split_parts : (sep : ℕ) (text : List ℕ) → length (slice_split (λ b. nat_eq b sep) text) ≡ parts_of sep text
-unfolding parts_of
-split_parts sep [] = refl
-split_parts sep (b ∷ bs) = go (eqb b sep) (split_parts sep bs)
-  where
-    go : (t : Bool) → length (slice_split (λ b. nat_eq b sep) bs) ≡ parts_of sep bs
-        → length (cond t ([] ∷ slice_split (λ b. nat_eq b sep) bs) (onto_first b (slice_split (λ b. nat_eq b sep) bs))) ≡ cond t 1 0 + parts_of sep bs
-    go true p = omega (arith, p)
-    go false p = onto_length b (slice_split (λ b. nat_eq b sep) bs) (omega (arith, p, parts_least sep bs)) ∙ p ∙ sym (zero-add (parts_of sep bs))
+counted_parts sep [] = refl
+counted_parts sep (b ∷ bs) = omega (arith, sum_by-cons (λ x. cond (nat_eq x sep) 1 0) b bs, counted_parts sep bs)
 
 -- Texts are the same where each byte is.
 pub same_pointwise : (a b : List ℕ) → same_text a b ≡ pointwise nat_eq a b
@@ -120,3 +107,12 @@ same_reads (x ∷ text) (y ∷ p) = grind (arith, nat_tests, reads_tail x text p
 
 -- What a `match` on a text's words needs.
 pub ruleset words = (nat_tests, same_reads, and-false)
+
+-- The form `seq:LEN:START:STEP` shows in the first four bytes.
+pub seq_begins : (text : List ℕ) → (starts_with nat_eq text (115 ∷ 101 ∷ 113 ∷ 58 ∷ []) && eqb (parts_of 58 text) 4) ≡ is_seq text
+unfolding parts_of part_of up_to same_text
+seq_begins [] = refl
+seq_begins (a ∷ []) = grind (arith, nat_tests)
+seq_begins (a ∷ b ∷ []) = grind (arith, nat_tests)
+seq_begins (a ∷ b ∷ c ∷ []) = grind (arith, nat_tests)
+seq_begins (a ∷ b ∷ c ∷ d ∷ text) = grind (arith, nat_tests)

@@ -61,11 +61,11 @@ fn seq_bytes(text: &[u8], out: &mut [u8; 131072]) -> Option<usize>
     Some(n)
 }
 
-#[tactic(auto, using(crate::proofs::Walks::words))]
+#[tactic(auto, using(crate::proofs::Walks::seq_begins))]
 fn is_seq(text: &[u8]) -> bool
     ensures { result ≡ is_seq text.now }
 {
-    parts(text, COLON) == 4 && matches!(part(text, COLON, 0), b"seq")
+    text.starts_with(b"seq:") && parts(text, COLON) == 4
 }
 
 // The bytes of a text, put at the start of those lent. A text that is no BYTES leaves them as they are.

@@ -25,10 +25,11 @@ pub(crate) fn part(text: &[u8], sep: u8, k: usize) -> &[u8]
 }
 
 // How many parts there are.
+#[tactic(auto, using(crate::proofs::Walks::counted_parts))]
 pub(crate) fn parts(text: &[u8], sep: u8) -> usize
     ensures { result ≡ parts_of sep text.now }
 {
-    text.split(|b| *b == sep).count()
+    1 + text.iter().map(|b| usize::from(*b == sep)).sum::<usize>()
 }
 
 // Whether two texts are the same.

@@ -4,8 +4,6 @@ ghost use Rattle.script.specs.Numbers.{digit_of, all_digits};
 ghost use Rattle.script.specs.Bytes.{pairs_of};
 ghost use Rattle.script.specs.Typed.{half_pair};
 
-use crate::number::digit;
-
 #[derive(Drop)]
 pub(crate) struct Pairs<'a> {
     pub(crate) digits: &'a [u8],
@@ -20,12 +18,25 @@ fn all_hex(text: &[u8]) -> bool
     text.iter().all(|b| b.is_ascii_hexdigit())
 }
 
+// The value of a digit that is hexadecimal.
+#[tactic(auto, unfolding(crate::specs::Numbers::digit_of))]
+fn nibble(b: u8) -> u8
+    requires { digit_of b < 16 }
+    ensures { result ≡ digit_of b }
+{
+    match b {
+        b'0'..=b'9' => b - b'0',
+        b'A'..=b'F' => b - b'A' + 10,
+        _ => b - b'a' + 10,
+    }
+}
+
 // The byte of two digits.
 fn pair(a: u8, b: u8) -> u8
     requires { (digit_of a < 16) × (digit_of b < 16) }
     ensures { result ≡ digit_of a * 16 + digit_of b }
 {
-    (digit(a, 16).unwrap() * 16 + digit(b, 16).unwrap()) as u8
+    nibble(a) * 16 + nibble(b)
 }
 
 impl<'a> Pairs<'a> {

@@ -1,6 +1,6 @@
-// The output's text, put into lent bytes from a place on. Each answers the place after it; a text that doesn't fit is left out.
-// Bytes and place stay two parameters: `Placed` speaks of both, and callers keep the place from call to call without the bytes.
-ghost use Rattle.std.specs.Prelude.{◌≡◌, [], ◌∷◌, ◌+◌, ◌*◌, ◌/◌, ◌%◌, ◌≤◌, ◌<◌, length, SomeIff};
+// The output's text, put into lent bytes from a place on, each function answering the place after it; or into a `Text`, which keeps its place. A text that doesn't fit is left out.
+// Bytes and place stay two parameters of the functions: `Placed` speaks of both.
+ghost use Rattle.std.specs.Prelude.{◌≡◌, [], ◌∷◌, ◌+◌, ◌*◌, ◌/◌, ◌%◌, ◌≤◌, ◌<◌, length, take, SomeIff};
 ghost use Rattle.std.proofs.lemmas.List.Edits.{sets};
 ghost use Rattle.io.specs.Digits.{hex_digit_ascii as digitText};
 ghost use Rattle.script.specs.Text.{Placed, PlacedDecimal, PlacedHex, hex_of, pairs_text};
@@ -79,4 +79,54 @@ pub fn put_pairs(out: &mut [u8], at: usize, bytes: &[u8]) -> usize
     };
     put_bytes(out, at, bytes);
     end
+}
+
+// Lines that are put together before they are written out: `used` bytes of a room of a fixed size.
+#[derive(Drop)]
+pub struct Text<const N: usize> {
+    pub room: [u8; N],
+    pub used: usize,
+}
+
+impl<const N: usize> Text<N> {
+    #[inline(always)]
+    pub fn new() -> Text<N>
+        ensures { result.used ≡ 0 }
+    {
+        Text {
+            room: [0; N],
+            used: 0,
+        }
+    }
+
+    pub fn put(&mut self, text: &[u8])
+        ensures { Placed self.old.room self.old.used text.now self.new.room self.new.used }
+    {
+        self.used = put(&mut self.room, self.used, text);
+    }
+
+    pub fn put_decimal(&mut self, n: u64)
+        ensures { PlacedDecimal self.old.room self.old.used n self.new.room self.new.used }
+    {
+        self.used = put_decimal(&mut self.room, self.used, n);
+    }
+
+    pub fn put_hex(&mut self, n: u64, width: usize)
+        ensures { PlacedHex self.old.room self.old.used width n self.new.room self.new.used }
+    {
+        self.used = put_hex(&mut self.room, self.used, n, width);
+    }
+
+    pub fn put_pairs(&mut self, bytes: &[u8])
+        ensures { Placed self.old.room self.old.used (pairs_text bytes.now) self.new.room self.new.used }
+    {
+        self.used = put_pairs(&mut self.room, self.used, bytes);
+    }
+
+    // The bytes put so far.
+    pub fn text(&self) -> &[u8]
+        ensures { result.now ≡ take self.now.used self.now.room }
+    {
+        &self.room[..self.used.min(N)]
+    }
 }

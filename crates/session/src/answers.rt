@@ -1,7 +1,7 @@
 // What comes of a call that isn't refused, as its answer's line spells it.
+use crate::output::{Output, put_number};
+use crate::print::Came;
 use pool::pipe::PipeNumber;
-use printing::Hex;
-use std::fmt;
 use transfers::answers::Step;
 use transfers::host_controller::{DeviceStatus, InterruptPacket, UsbSpeed};
 use transfers::irq::Wake;
@@ -16,30 +16,67 @@ pub(crate) enum Outcome {
     Device(Option<DeviceStatus>),
 }
 
-fn device_name(device: DeviceStatus) -> &'static str {
+fn device_name(device: DeviceStatus) -> &'static [u8] {
     match device {
-        DeviceStatus::Absent => "absent",
-        DeviceStatus::Present(UsbSpeed::Low1_5) => "low",
-        DeviceStatus::Present(UsbSpeed::Full12) => "full",
+        DeviceStatus::Absent => b"absent",
+        DeviceStatus::Present(UsbSpeed::Low1_5) => b"low",
+        DeviceStatus::Present(UsbSpeed::Full12) => b"full",
     }
 }
 
-impl fmt::Display for Outcome {
-    fn fmt<W: fmt::Write>(&self, f: &mut fmt::Formatter<W>) -> fmt::Result {
-        match *self {
-            Outcome::Pipe(PipeNumber(n)) => write!(f, "pipe {n}"),
-            Outcome::Packet(p) => {
-                let bytes = Hex(&p.data[..usize::from(p.size).min(64)]);
-                write!(f, "packet {} {} {} {bytes}", p.address, p.endpoint, p.size)
+fn put_packet(out: &mut Output, p: InterruptPacket) {
+    out.put(b"packet");
+    put_number(out, p.address as u64);
+    put_number(out, p.endpoint as u64);
+    put_number(out, p.size as u64);
+    out.put(b" ");
+    out.put_pairs(&p.data[..usize::from(p.size).min(64)]);
+}
+
+fn put_step(out: &mut Output, step: Step, toggle: Option<bool>) {
+    match step {
+        Step::Waiting(again) => {
+            out.put(b"waiting");
+            put_number(out, u8::from(again) as u64);
+        }
+        Step::Done(count) => {
+            out.put(b"done");
+            put_number(out, count as u64);
+            match toggle {
+                Some(toggle) => put_number(out, u8::from(toggle) as u64),
+                None => out.put(b" -"),
             }
-            Outcome::Step(Step::Waiting(again), _) => write!(f, "waiting {}", u8::from(again)),
-            Outcome::Step(Step::Done(count), Some(toggle)) => {
-                write!(f, "done {count} {}", u8::from(toggle))
+        }
+    }
+}
+
+fn put_wake(out: &mut Output, w: Wake) {
+    out.put(b"wake ");
+    out.put_hex(w.pipes as u64, 4);
+    put_number(out, u8::from(w.detect) as u64);
+}
+
+fn put_device(out: &mut Output, device: Option<DeviceStatus>) {
+    match device {
+        Some(device) => {
+            out.put(b"device ");
+            out.put(device_name(device));
+        }
+        None => out.put(b"waiting 0"),
+    }
+}
+
+impl Came for Outcome {
+    fn put(self, out: &mut Output) {
+        match self {
+            Outcome::Pipe(PipeNumber(n)) => {
+                out.put(b"pipe");
+                put_number(out, n as u64);
             }
-            Outcome::Step(Step::Done(count), None) => write!(f, "done {count} -"),
-            Outcome::Wake(w) => write!(f, "wake {:#06x} {}", w.pipes, u8::from(w.detect)),
-            Outcome::Device(Some(device)) => write!(f, "device {}", device_name(device)),
-            Outcome::Device(None) => write!(f, "waiting 0"),
+            Outcome::Packet(p) => put_packet(out, p),
+            Outcome::Step(step, toggle) => put_step(out, step, toggle),
+            Outcome::Wake(w) => put_wake(out, w),
+            Outcome::Device(device) => put_device(out, device),
         }
     }
 }

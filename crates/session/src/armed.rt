@@ -1,24 +1,34 @@
 // What a call armed, as lines of a block.
+use crate::output::{Output, put_number};
 use cutting::packetiser::Arm;
-use printing::Hex;
-use std::io;
-use std::io::Write;
 use transfers::answers::{Armed, ArmedOut, ArmedSetup};
 use transfers::memory::slot_address;
+use transfers::wire::SetupPacket;
+
+fn print_setup(out: &mut Output, s: ArmedSetup) {
+    let setup = s.setup;
+    out.put(b"setup");
+    put_number(out, s.address as u64);
+    out.put(b" ");
+    out.put_pairs(&setup_bytes(setup));
+    out.put(b"\n");
+}
 
 // SETUP as on the wire, the low byte of each half first.
-fn print_setup<W: Write>(out: &mut W, s: ArmedSetup) -> io::Result<()> {
-    let setup = s.setup;
-    writeln!(
-        out,
-        "setup {} {:02x}{:02x}{:04x}{:04x}{:04x}",
-        s.address,
+fn setup_bytes(setup: SetupPacket) -> [u8; 8] {
+    let [value_low, value_high] = setup.wValue.to_le_bytes();
+    let [index_low, index_high] = setup.wIndex.to_le_bytes();
+    let [length_low, length_high] = setup.wLength.to_le_bytes();
+    [
         setup.bmRequestType,
         setup.bRequest,
-        setup.wValue.swap_bytes(),
-        setup.wIndex.swap_bytes(),
-        setup.wLength.swap_bytes()
-    )
+        value_low,
+        value_high,
+        index_low,
+        index_high,
+        length_low,
+        length_high,
+    ]
 }
 
 // A packet's bytes in its slot.
@@ -28,31 +38,31 @@ fn slot_bytes(pm: &[u8; 4096], arm: Arm) -> &[u8] {
 }
 
 // An OUT packet.
-fn print_out<W: Write>(out: &mut W, o: ArmedOut, pm: &[u8; 4096]) -> io::Result<()> {
+fn print_out(out: &mut Output, o: ArmedOut, pm: &[u8; 4096]) {
     let arm = o.arm;
-    let pid = u8::from(arm.pid);
-    let last = u8::from(arm.last);
-    let bytes = Hex(slot_bytes(pm, arm));
-    writeln!(
-        out,
-        "out {} {} {pid} {last} {} {bytes}",
-        o.address, o.endpoint, arm.length
-    )
+    out.put(b"out");
+    put_number(out, o.address as u64);
+    put_number(out, o.endpoint as u64);
+    put_number(out, u8::from(arm.pid) as u64);
+    put_number(out, u8::from(arm.last) as u64);
+    put_number(out, arm.length as u64);
+    out.put(b" ");
+    out.put_pairs(slot_bytes(pm, arm));
+    out.put(b"\n");
 }
 
-fn print_outs<W: Write>(out: &mut W, armed: Armed, pm: &[u8; 4096]) -> io::Result<()> {
+fn print_outs(out: &mut Output, armed: Armed, pm: &[u8; 4096]) {
     if let Some(first) = armed.first {
-        print_out(out, first, pm)?;
+        print_out(out, first, pm);
     }
     if let Some(second) = armed.second {
-        print_out(out, second, pm)?;
+        print_out(out, second, pm);
     }
-    Ok(())
 }
 
-pub(crate) fn print_armed<W: Write>(out: &mut W, armed: Armed, pm: &[u8; 4096]) -> io::Result<()> {
+pub(crate) fn print_armed(out: &mut Output, armed: Armed, pm: &[u8; 4096]) {
     if let Some(setup) = armed.setup {
-        print_setup(out, setup)?;
+        print_setup(out, setup);
     }
     print_outs(out, armed, pm)
 }

@@ -6,6 +6,7 @@ mod armed;
 pub mod begin;
 mod effects;
 pub mod log;
+pub mod output;
 mod pipes;
 pub mod play;
 pub mod player;

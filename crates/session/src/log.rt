@@ -1,8 +1,7 @@
 // The log that a call is lent, and its lines.
 ghost use Rattle.std.specs.Prelude.{◌≡◌, min, length, replicate};
 
-use std::io;
-use std::io::Write;
+use crate::output::{Output, put_number, put_word};
 
 // What a word of the log is before a call.
 const UNWRITTEN: u32 = 0xA5A5_A5A5;
@@ -29,27 +28,32 @@ impl Log {
     }
 
     // The writes, and the words past them that are no longer as they were.
-    pub(crate) fn print<W: Write>(&self, out: &mut W, writes: usize) -> io::Result<()> {
-        self.print_writes(out, writes)?;
+    pub(crate) fn print(&self, out: &mut Output, writes: usize) {
+        self.print_writes(out, writes);
         self.print_others(out, writes)
     }
 
-    fn print_writes<W: Write>(&self, out: &mut W, writes: usize) -> io::Result<()> {
+    fn print_writes(&self, out: &mut Output, writes: usize) {
         for word in self.words.chunks_exact(3).take(writes) {
             if let [a, b, c] = word {
-                writeln!(out, "w {a:#010x} {b:#010x} {c:#010x}")?;
+                out.put(b"w");
+                put_word(out, *a);
+                put_word(out, *b);
+                put_word(out, *c);
+                out.put(b"\n");
             }
         }
-        Ok(())
     }
 
-    fn print_others<W: Write>(&self, out: &mut W, writes: usize) -> io::Result<()> {
-        let words = self.words.iter().enumerate();
-        for (i, word) in words.skip(writes.saturating_mul(3)) {
+    fn print_others(&self, out: &mut Output, writes: usize) {
+        let from = writes.saturating_mul(3).min(192);
+        for (word, i) in self.words[from..].iter().zip(from..) {
             if *word != UNWRITTEN {
-                writeln!(out, "log {i} {word:#010x}")?;
+                out.put(b"log");
+                put_number(out, i as u64);
+                put_word(out, *word);
+                out.put(b"\n");
             }
         }
-        Ok(())
     }
 }

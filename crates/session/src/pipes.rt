@@ -2,12 +2,11 @@
 use crate::answers::Outcome;
 use crate::begin::extras_of;
 use crate::log::Log;
+use crate::output::Output;
 use crate::print::{print_answer, print_block_end};
 use crate::state::State;
 use pool::pipe::PipeNumber;
 use script::command::{Interrupt, Opening, Polling};
-use std::io;
-use std::io::Write;
 use transfers::answers::Step;
 use transfers::host_controller::InterruptPacket;
 use transfers::irq::on_irq;
@@ -21,7 +20,7 @@ fn outcome(poll: Poll, packet: InterruptPacket) -> Outcome {
 }
 
 impl State {
-    pub(crate) fn open<W: Write>(&mut self, c: Opening, out: &mut W) -> io::Result<()> {
+    pub(crate) fn open(&mut self, c: Opening, out: &mut Output) {
         let mut log = Log::new();
         let extras = extras_of(c.preamble);
         let lent = log.lent(self.words);
@@ -29,19 +28,19 @@ impl State {
             .driver
             .open(c.address, extras, c.endpoint, c.size, c.interval, lent);
         self.driver = o.next;
-        print_answer(out, o.answer.map(|pipe| Outcome::Pipe(pipe)))?;
-        log.print(out, o.writes)?;
+        print_answer(out, o.answer.map(|pipe| Outcome::Pipe(pipe)));
+        log.print(out, o.writes);
         print_block_end(out)
     }
 
-    pub(crate) fn close<W: Write>(&mut self, pipe: u8, out: &mut W) -> io::Result<()> {
+    pub(crate) fn close(&mut self, pipe: u8, out: &mut Output) {
         let c = self.driver.close(PipeNumber(pipe));
         self.driver = c.next;
-        print_answer(out, c.answer.map(|()| "closed"))?;
+        print_answer(out, c.answer.map(|()| "closed"));
         print_block_end(out)
     }
 
-    pub(crate) fn poll<W: Write>(&mut self, c: Polling, out: &mut W) -> io::Result<()> {
+    pub(crate) fn poll(&mut self, c: Polling, out: &mut Output) {
         let mut log = Log::new();
         let sample = PipeSample {
             buffer: c.buffer,
@@ -54,25 +53,25 @@ impl State {
             log.lent(self.words),
         );
         self.driver = p.next;
-        print_answer(out, p.answer.map(|poll| outcome(poll, p.packet)))?;
-        log.print(out, p.writes)?;
+        print_answer(out, p.answer.map(|poll| outcome(poll, p.packet)));
+        log.print(out, p.writes);
         print_block_end(out)
     }
 
-    pub(crate) fn irq<W: Write>(&self, c: Interrupt, out: &mut W) -> io::Result<()> {
+    pub(crate) fn irq(&self, c: Interrupt, out: &mut Output) {
         let mut log = Log::new();
         let w = on_irq(c.ints, c.status, log.lent(self.words));
-        print_answer(out, w.answer.map(|wake| Outcome::Wake(wake)))?;
-        log.print(out, w.writes)?;
+        print_answer(out, w.answer.map(|wake| Outcome::Wake(wake)));
+        log.print(out, w.writes);
         print_block_end(out)
     }
 
-    pub(crate) fn detect<W: Write>(&mut self, status: u32, out: &mut W) -> io::Result<()> {
+    pub(crate) fn detect(&mut self, status: u32, out: &mut Output) {
         let mut log = Log::new();
         let d = self.driver.detect(status, log.lent(self.words));
         self.driver = d.next;
-        print_answer(out, d.answer.map(|device| Outcome::Device(device)))?;
-        log.print(out, d.writes)?;
+        print_answer(out, d.answer.map(|device| Outcome::Device(device)));
+        log.print(out, d.writes);
         print_block_end(out)
     }
 }

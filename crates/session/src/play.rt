@@ -1,30 +1,27 @@
 // What a script's lines leave behind, and a line that begins no transfer.
-ghost use Rattle.std.specs.Prelude.{◌≡◌, ◌++◌, None, Some, OnOk, min, take, replicate, codes};
+ghost use Rattle.std.specs.Prelude.{◌≡◌, ◌++◌, None, Some, min, take, replicate, codes};
 ghost use Rattle.std.specs.Fmt.{decimal};
-ghost use Rattle.std.specs.Io.KnownBytes.{Appends};
 ghost use Rattle.script.specs.Text.{placed};
 ghost use Rattle.session.specs.Leaves.{desk_rule_of, IsFresh, Leaves};
-ghost use Rattle.session.specs.Prints.{Prints};
+ghost use Rattle.session.specs.Prints.{Prints, Puts};
 ghost use Rattle.transfers.specs.declared.driver.DeskRule.TheVariants.{One};
 
+use crate::output::{Output, put_number};
 use crate::print::{print_block_end, print_ok};
 use crate::state::State;
-use printing::print_unreadable;
 use script::command::{Call, Lent, Rule, Stepping, Stored};
 use script::text::put;
-use std::io;
-use std::io::Write;
 use transfers::driver::DeskRule;
 
 // `length` bytes of `buf` are begin's buffer, `own` has a `buffer` line's bytes: as many as the next step is lent, where it is.
 // `bytes` are those that the line stored. Rooms of a fixed size with counts beside them: nothing here allocates.
-#[derive(Drop)]
+#[derive(Clone, Copy)]
 pub struct Session {
     pub state: State,
-    buf: [u8; 131072],
-    length: usize,
-    own: [u8; 131072],
-    lent: Option<usize>,
+    pub buf: [u8; 131072],
+    pub length: usize,
+    pub own: [u8; 131072],
+    pub lent: Option<usize>,
     pub bytes: [u8; 131072],
 }
 
@@ -39,14 +36,17 @@ fn desk_rule(rule: Rule) -> DeskRule
 }
 
 // The block of a line that can't be read.
-pub(crate) fn unreadable<W: Write>(out: &mut W, number: usize) -> io::Result<()>
-    ensures { OnOk result (Appends (W.contents out.old) (W.contents out.new) (codes "line " ++ decimal number ++ codes ": not a line of a script\n.\n")) }
+pub(crate) fn unreadable(out: &mut Output, number: usize)
+    ensures { Puts out.old (codes "line " ++ decimal number ++ codes ": not a line of a script\n.\n") out.new }
 {
-    print_unreadable(out, number)?;
+    out.put(b"line");
+    put_number(out, number as u64);
+    out.put(b": not a line of a script\n");
     print_block_end(out)
 }
 
 impl Session {
+    #[inline(always)]
     pub fn new() -> Session
         ensures fresh { IsFresh One result.state }
         ensures lent { result.lent ≡ None }
@@ -104,7 +104,7 @@ impl Session {
         self.lent = Some(n);
     }
 
-    fn step_in<W: Write>(&mut self, c: Stepping, out: &mut W) -> io::Result<()> {
+    fn step_in(&mut self, c: Stepping, out: &mut Output) {
         match self.lent.take() {
             Some(n) => {
                 let own = &mut self.own[..];
@@ -119,7 +119,7 @@ impl Session {
         }
     }
 
-    fn step_out<W: Write>(&mut self, c: Stepping, out: &mut W) -> io::Result<()> {
+    fn step_out(&mut self, c: Stepping, out: &mut Output) {
         let n = self.length.min(131072);
         match self.lent.take() {
             Some(own) => self.state.step_out(c, &self.own[..own.min(131072)], out),
@@ -128,12 +128,12 @@ impl Session {
     }
 
     // The blocks of the lines that call the driver are held by the programs' stored output.
-    pub fn run<W: Write>(&mut self, number: usize, c: Call, out: &mut W) -> io::Result<()>
+    pub fn run(&mut self, number: usize, c: Call, out: &mut Output)
         ensures leaves { Leaves c self.old self.new }
-        ensures prints { OnOk result (Prints c number (W.contents out.old) (W.contents out.new)) }
+        ensures prints { Prints c number out.old out.new }
     {
         match c {
-            Call::Skipped => Ok(()),
+            Call::Skipped => {}
             Call::Wrong => unreadable(out, number),
             Call::Fresh => {
                 self.refresh(self.state.driver.rule);

@@ -1,63 +1,66 @@
 // How a program plays a script: whole blocks come together before they are written out.
-ghost use Rattle.std.specs.Prelude.{OnOk};
-ghost use Rattle.session.specs.Prints.{Grows};
+ghost use Rattle.std.specs.Prelude.{◌≡◌, OnOk};
+ghost use Rattle.std.specs.Io.KnownBytes.{Appends};
+ghost use Rattle.session.specs.Prints.{kept, Grows};
 
+use crate::output::Output;
 use crate::play::unreadable;
 use crate::read::{Lines, Turn};
 use std::io;
-use std::io::{Cursor, Read, Write};
+use std::io::{Read, Write};
 
 // A program that plays a script.
 pub trait Play {
     // Plays the line of this number and text, and prints its block.
-    fn play<W: Write>(&mut self, number: usize, text: &[u8], out: &mut W) -> io::Result<()>;
+    fn play(&mut self, number: usize, text: &[u8], out: &mut Output);
 }
 
-fn play_line<P: Play, W: Write>(player: &mut P, lines: &Lines, out: &mut W) -> io::Result<()> {
+fn play_line<P: Play>(player: &mut P, lines: &Lines, out: &mut Output) {
     match lines.text() {
         Some(text) => player.play(lines.number(), text, out),
         None => unreadable(out, lines.number()),
     }
 }
 
-#[tactic(auto, using(crate::proofs::Grows::grows_by))]
-fn flush<W: Write, const N: usize>(to: &mut W, out: &mut Cursor<[u8; N]>) -> io::Result<()>
-    ensures { OnOk result (Grows (W.contents to.old) (W.contents to.new)) }
+// Writes out what is kept.
+fn flush<W: Write>(to: &mut W, out: &mut Output) -> io::Result<()>
+    ensures written { OnOk result (Appends (W.contents to.old) (W.contents to.new) (kept out.old)) }
+    ensures emptied { out.new.used ≡ 0 }
 {
-    let at = out.position() as usize;
-    out.set_position(0);
-    to.write_all(out.get_ref().get(..at).unwrap_or_default())
+    let written = to.write_all(out.text());
+    out.used = 0;
+    written
 }
 
 // After a block: an output that is long enough is written out. A block has at most 903,995 bytes, so that with less than 65,536 before it 1,048,576 are room enough.
-#[tactic(auto, using(crate::proofs::Grows::grows_refl))]
-fn flush_long<W: Write, const N: usize>(to: &mut W, out: &mut Cursor<[u8; N]>) -> io::Result<()>
+#[tactic(auto, using(crate::proofs::Grows::grows_refl, crate::proofs::Grows::grows_by))]
+fn flush_long<W: Write>(to: &mut W, out: &mut Output) -> io::Result<()>
     ensures { OnOk result (Grows (W.contents to.old) (W.contents to.new)) }
 {
-    if out.position() < 65536 {
+    if out.used < 65536 {
         return Ok(());
     }
     flush(to, out)
 }
 
-fn play_whole<P: Play, W: Write, const N: usize>(
+fn play_whole<P: Play, W: Write>(
     player: &mut P,
     lines: &Lines,
     to: &mut W,
-    out: &mut Cursor<[u8; N]>,
+    out: &mut Output,
 ) -> io::Result<()>
     ensures { OnOk result (Grows (W.contents to.old) (W.contents to.new)) }
 {
-    play_line(player, lines, out)?;
+    play_line(player, lines, out);
     flush_long(to, out)
 }
 
 // A proved loop has to end, and nothing says that the input does: it counts up to a number that no run uses up.
-fn play_lines<P: Play, R: Read, W: Write, const N: usize>(
+fn play_lines<P: Play, R: Read, W: Write>(
     player: &mut P,
     input: &mut R,
     to: &mut W,
-    out: &mut Cursor<[u8; N]>,
+    out: &mut Output,
 ) -> io::Result<()>
     ensures { OnOk result (Grows (W.contents to.old) (W.contents to.new)) }
 {
@@ -85,6 +88,6 @@ pub fn play_all<P: Play, R: Read, W: Write>(
 ) -> io::Result<()>
     ensures { OnOk result (Grows (W.contents to.old) (W.contents to.new)) }
 {
-    let mut out = Cursor::new([0u8; 1048576]);
+    let mut out = Output::new();
     play_lines(player, input, to, &mut out)
 }

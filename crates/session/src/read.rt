@@ -29,6 +29,7 @@ pub(crate) struct Lines {
 }
 
 impl Lines {
+    #[inline(always)]
     pub(crate) fn new() -> Lines {
         Lines {
             chunk: [0; 65536],

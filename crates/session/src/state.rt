@@ -1,30 +1,28 @@
 // What a script's lines leave behind, beside the buffers.
-ghost use Rattle.std.specs.Prelude.{◌≡◌, take, None, OnOk, IfOk};
+ghost use Rattle.std.specs.Prelude.{◌≡◌, take, None, IfOk};
 ghost use Rattle.record.specs.Writer.{append_of, Appended};
 ghost use Rattle.session.specs.Leaves.{IsFresh};
 
 use crate::effects::print_effects;
 use crate::log::Log;
+use crate::output::{Output, put_number};
 use crate::print::print_block_end;
-use printing::Hex;
 use record::refusal::Refusal;
 use record::writer::append;
-use std::io;
-use std::io::Write;
 use transfers::answers::Armed;
 use transfers::driver::{DeskRule, Driver};
 
 // `memory` bytes of packet memory and `words` of the log are lent to the calls. `bulk` is begin's kind. The record has `used` bytes,
 // or was refused. The counts stand beside rooms of a fixed size: nothing here allocates.
-#[derive(Drop)]
+#[derive(Clone, Copy)]
 pub struct State {
     pub driver: Driver,
     pub pm: [u8; 4096],
     pub memory: usize,
     pub words: usize,
     pub bulk: bool,
-    record: [u8; 131072],
-    used: Result<usize, Refusal>,
+    pub record: [u8; 131072],
+    pub used: Result<usize, Refusal>,
 }
 
 // `transfers`' own `nothing_armed` is of its crate alone.
@@ -35,7 +33,8 @@ pub(crate) const NOTHING_ARMED: Armed = Armed {
 };
 
 impl State {
-    pub(crate) fn new(rule: DeskRule) -> State
+    #[inline(always)]
+    pub fn new(rule: DeskRule) -> State
         ensures { IsFresh rule result }
     {
         let mut state = State {
@@ -52,7 +51,8 @@ impl State {
     }
 
     // As after `fresh`, with a driver of this desk rule.
-    pub(crate) fn refresh(&mut self, rule: DeskRule)
+    #[inline(always)]
+    pub fn refresh(&mut self, rule: DeskRule)
         ensures { IsFresh rule self.new }
     {
         self.driver = Driver::new(rule);
@@ -78,7 +78,7 @@ impl State {
     }
 
     // Appends what a call armed, or the count of a transfer that failed; a refusal stands until the next `fresh`.
-    pub(crate) fn write_record(&mut self, armed: Armed, failed: Option<u32>)
+    pub fn write_record(&mut self, armed: Armed, failed: Option<u32>)
         ensures rest { self.new ≡ record self.old { «record» = self.new.«record»; used = self.new.used } }
         ensures appended { IfOk self.old.used (λ used. Appended (append_of armed failed self.old.pm self.old.«record» used) self.new.used self.new.«record») }
     {
@@ -87,27 +87,34 @@ impl State {
         }
     }
 
-    pub(crate) fn print_record<W: Write>(&self, out: &mut W) -> io::Result<()> {
+    pub(crate) fn print_record(&self, out: &mut Output) {
         match self.used {
-            Ok(used) => writeln!(out, "record {}", Hex(&self.record[..used.min(131072)]))?,
-            Err(why) => writeln!(out, "record refused {}", u8::from(why))?,
+            Ok(used) => {
+                out.put(b"record ");
+                out.put_pairs(&self.record[..used.min(131072)]);
+            }
+            Err(why) => {
+                out.put(b"record refused");
+                put_number(out, u8::from(why) as u64);
+            }
         }
+        out.put(b"\n");
         print_block_end(out)
     }
 
     // The block of a begin after its answer, and the record. The block's lines are held by the programs' stored output.
-    pub fn finish<W: Write>(
+    pub fn finish(
         &mut self,
         armed: Armed,
         writes: usize,
         old: &[u8; 4096],
         log: &Log,
-        out: &mut W,
-    ) -> io::Result<()>
+        out: &mut Output,
+    )
         ensures rest { self.new ≡ record self.old { «record» = self.new.«record»; used = self.new.used } }
-        ensures appended { OnOk result (IfOk self.old.used (λ used. Appended (append_of armed None self.old.pm self.old.«record» used) self.new.used self.new.«record»)) }
+        ensures appended { IfOk self.old.used (λ used. Appended (append_of armed None self.old.pm self.old.«record» used) self.new.used self.new.«record») }
     {
-        print_effects(out, log, writes, armed, old, &self.pm)?;
+        print_effects(out, log, writes, armed, old, &self.pm);
         self.write_record(armed, None);
         print_block_end(out)
     }

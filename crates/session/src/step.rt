@@ -2,12 +2,11 @@
 use crate::answers::Outcome;
 use crate::effects::print_effects;
 use crate::log::Log;
+use crate::output::{Output, put_number};
 use crate::print::{print_answer, print_block_end};
 use crate::runs::print_runs;
 use crate::state::{NOTHING_ARMED, State};
 use script::command::Stepping;
-use std::io;
-use std::io::Write;
 use transfers::control::Stepped;
 use transfers::sample::Sample;
 
@@ -20,46 +19,39 @@ fn sample_of(c: Stepping) -> Sample {
 }
 
 // Of a transfer that failed or was cancelled, a bulk's toggle and how many entries it had armed.
-fn print_failed<W: Write>(
-    out: &mut W,
-    failed: Option<u32>,
-    toggle: Option<bool>,
-) -> io::Result<()> {
+fn print_failed(out: &mut Output, failed: Option<u32>, toggle: Option<bool>) {
     let Some(count) = failed else {
-        return Ok(());
+        return;
     };
     if let Some(toggle) = toggle {
-        writeln!(out, "toggle {}", u8::from(toggle))?;
+        out.put(b"toggle");
+        put_number(out, u8::from(toggle) as u64);
+        out.put(b"\n");
     }
-    writeln!(out, "failed {count}")
+    out.put(b"failed");
+    put_number(out, count as u64);
+    out.put(b"\n");
 }
 
 impl State {
     // The toggle is a bulk's; a control has none.
-    fn report<W: Write>(
-        &mut self,
-        p: Stepped,
-        old: &[u8; 4096],
-        log: &Log,
-        out: &mut W,
-    ) -> io::Result<()> {
+    fn report(&mut self, p: Stepped, old: &[u8; 4096], log: &Log, out: &mut Output) {
         let toggle = self.bulk.then_some(p.toggle);
         self.driver = p.next;
-        print_answer(out, p.answer.map(|step| Outcome::Step(step, toggle)))?;
-        print_failed(out, p.failed, toggle)?;
-        print_effects(out, log, p.writes, p.armed, old, &self.pm)?;
+        print_answer(out, p.answer.map(|step| Outcome::Step(step, toggle)));
+        print_failed(out, p.failed, toggle);
+        print_effects(out, log, p.writes, p.armed, old, &self.pm);
         self.write_record(p.armed, p.failed);
-        Ok(())
     }
 
     // A step that is lent `buf`; what this was before goes into `before`.
-    pub(crate) fn step_in<W: Write>(
+    pub(crate) fn step_in(
         &mut self,
         c: Stepping,
         buf: &mut [u8],
         before: &mut [u8; 131072],
-        out: &mut W,
-    ) -> io::Result<()> {
+        out: &mut Output,
+    ) {
         let mut log = Log::new();
         let old = self.pm;
         let before = &mut before[..buf.len().min(131072)];
@@ -68,32 +60,27 @@ impl State {
         let p = self
             .driver
             .step_in(sample_of(c), buf, self.lent_mut(), words);
-        self.report(p, &old, &log, out)?;
-        print_runs(out, "buf", before, buf)?;
+        self.report(p, &old, &log, out);
+        print_runs(out, "buf", before, buf);
         print_block_end(out)
     }
 
-    pub(crate) fn step_out<W: Write>(
-        &mut self,
-        c: Stepping,
-        buf: &[u8],
-        out: &mut W,
-    ) -> io::Result<()> {
+    pub(crate) fn step_out(&mut self, c: Stepping, buf: &[u8], out: &mut Output) {
         let mut log = Log::new();
         let old = self.pm;
         let words = log.lent(self.words);
         let p = self
             .driver
             .step_out(sample_of(c), buf, self.lent_mut(), words);
-        self.report(p, &old, &log, out)?;
+        self.report(p, &old, &log, out);
         print_block_end(out)
     }
 
-    pub(crate) fn cancel<W: Write>(&mut self, out: &mut W) -> io::Result<()> {
+    pub(crate) fn cancel(&mut self, out: &mut Output) {
         let c = self.driver.cancel();
         self.driver = c.next;
-        print_answer(out, c.answer.map(|()| "cancelled"))?;
-        print_failed(out, c.failed, self.bulk.then_some(c.toggle))?;
+        print_answer(out, c.answer.map(|()| "cancelled"));
+        print_failed(out, c.failed, self.bulk.then_some(c.toggle));
         self.write_record(NOTHING_ARMED, c.failed);
         print_block_end(out)
     }

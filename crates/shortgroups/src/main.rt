@@ -9,17 +9,19 @@ ghost use Rattle.std.specs.Prelude.{◌≤◌};
 use crate::line::{Listing, parse};
 use groups::short_groups;
 use input::{TOO_LONG, Unreadable, first, is_too_long, read_input};
-use printing::{print_end, print_refused, print_unreadable};
+use printing::{
+    print_decimal, print_end, print_number, print_refused, print_text, print_unreadable,
+};
 use std::io;
 use std::io::Write;
 
 // A group's packet count and its lengths.
 fn print_group<W: Write>(out: &mut W, lengths: &[u8]) -> io::Result<()> {
-    write!(out, "{}", lengths.len())?;
+    print_decimal(out, lengths.len() as u64)?;
     for n in lengths {
-        write!(out, " {n}")?;
+        print_number(out, *n as usize)?;
     }
-    writeln!(out)
+    print_text(out, b"\n")
 }
 
 // Each group on a line, and how many they are. A list cut inside a group, which `short_groups` never writes, has no last line. Each group's first byte tells where the next begins.
