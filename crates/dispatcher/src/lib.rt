@@ -76,20 +76,19 @@ impl Dispatcher {
     }
 
     // Of a number above 7 nothing is kept.
-    fn caller(self, c: u8) -> Caller
-        ensures { result ≡ caller_at self c }
+    fn caller(&self, c: u8) -> Caller
+        ensures { result ≡ caller_at self.now c }
     {
         self.callers.get(c as usize).copied().unwrap_or(NO_CALLER)
     }
 
-    fn with_caller(mut self, c: u8, caller: Caller) -> Dispatcher
-        ensures { result ≡ with_caller self c caller }
+    fn with_caller(&mut self, c: u8, caller: Caller)
+        ensures { self.new ≡ with_caller self.old c caller }
     {
         let i = c as usize;
         if i < self.callers.len() {
             self.callers[i] = caller;
         }
-        self
     }
 
     // Whether a transfer of c waits; of nobody above 7.
@@ -114,16 +113,16 @@ impl Dispatcher {
     }
 
     // Whether c may have the turn: it waits, and its remainder is large enough.
-    fn fits(self, c: u8) -> bool
-        ensures { result ≡ fits self c }
+    fn fits(&self, c: u8) -> bool
+        ensures { result ≡ fits self.now c }
     {
         let caller = self.caller(c);
         caller.pending && caller.has_room(caller.requested)
     }
 
     // The next after the last that started, itself at the end, that fits. It goes round by `after`, from any last above 7 too; nothing is indexed.
-    fn next_turn(self) -> u8
-        ensures { result ≡ next_turn self }
+    fn next_turn(&self) -> u8
+        ensures { result ≡ next_turn self.now }
     {
         let mut i = self.last;
         for _ in 0..8usize {
@@ -136,25 +135,25 @@ impl Dispatcher {
     }
 
     // With none under way and nobody's turn, the next that fits has it.
-    fn settled(mut self, idle: bool) -> Dispatcher
-        ensures { result ≡ settled idle self }
+    fn settled(&mut self, idle: bool)
+        ensures { self.new ≡ settled idle self.old }
     {
         if idle && self.turn >= NOBODY {
             self.turn = self.next_turn();
         }
-        self
     }
 
     // A frame number other than the last seen sets every spent count to 0; before that the turn passes if the transfer ended meanwhile.
-    fn in_frame(mut self, idle: bool, frame: u32) -> Dispatcher
-        ensures { result ≡ in_frame (current idle self) frame }
+    fn in_frame(&mut self, idle: bool, frame: u32)
+        ensures { self.new ≡ in_frame (current idle self.old) frame }
     {
-        self = self.settled(idle);
+        self.settled(idle);
         if frame != self.frame {
-            self.callers = self.callers.map(|caller| Caller { used: 0, ..caller });
+            for caller in &mut self.callers {
+                caller.used = 0;
+            }
         }
         self.frame = frame;
-        self
     }
 
     // Whose turn it is, 8 if nobody's.
@@ -165,21 +164,27 @@ impl Dispatcher {
     }
 
     // A transfer of c comes, of n bytes.
-    pub fn submits(mut self, idle: bool, c: u8, n: usize, frame: u32) -> Dispatcher
+    pub fn submits(self, idle: bool, c: u8, n: usize, frame: u32) -> Dispatcher
         ensures { result ≡ submits idle (current idle self) c n frame }
     {
-        self = self.in_frame(idle, frame);
-        let mut caller = self.caller(c);
+        let mut next = self;
+        next.in_frame(idle, frame);
+        let mut caller = next.caller(c);
         caller.pending = true;
         caller.requested = n;
-        self.with_caller(c, caller).settled(idle)
+        next.with_caller(c, caller);
+        next.settled(idle);
+        next
     }
 
     // A look; a start begins with one.
     pub fn observes(self, idle: bool, frame: u32) -> Dispatcher
         ensures { result ≡ observes idle (current idle self) frame }
     {
-        self.in_frame(idle, frame).settled(idle)
+        let mut next = self;
+        next.in_frame(idle, frame);
+        next.settled(idle);
+        next
     }
 
     // The transfer of c starts, and is charged n bytes.
@@ -189,7 +194,7 @@ impl Dispatcher {
         let mut caller = self.caller(c);
         caller.pending = false;
         caller.used = caller.charged(n);
-        self = self.with_caller(c, caller);
+        self.with_caller(c, caller);
         self.turn = NOBODY;
         self.last = c;
         self

@@ -100,15 +100,15 @@ start_of d k f buf m log = start_lent (lent_fits m log) (next_start (observed d 
 
 -- ---- its checks
 
--- They let a.next start, with a buffer of n bytes and for a call of kind k, and this is known.
-pub record Admitted {T : Type 0} (k : StartKind) (came : T → Fields) (d : HostController) (f n : ℕ) (m log : List ℕ) (a : Admission T) : Type 0 where
-  pub does : (buf : List ℕ) → length buf ≡ n → start_of d k f buf m log ≡ starts_as (observed d f) a.next (beginning_of d.driver.transfer a.next.fields buf m log)
-  pub looked : a.now ≡ observed d f
+-- After a look that left t, with packet memory and a log that fit, they let a.next start, with a buffer of n bytes and for a call of kind k, and this is known.
+pub record Admitted {T : Type 0} (k : StartKind) (came : T → Fields) (t : HostController) (n : ℕ) (a : Admission T) : Type 0 where
+  pub does : (d : HostController) (f : ℕ) (buf m log : List ℕ) → t ≡ observed d f → lent_fits m log ≡ true → length buf ≡ n
+      → start_of d k f buf m log ≡ starts_as t a.next (beginning_of t.driver.transfer a.next.fields buf m log)
   pub came_with : a.next.fields ≡ came a.fields
 
 -- They refuse it.
-abbrev pub Refused : StartKind → HostController → ℕ → ℕ → List ℕ → List ℕ → Refusal → Type 0
-Refused k d f n m log why = (buf : List ℕ) → length buf ≡ n → start_of d k f buf m log ≡ refuses_start d why m
+abbrev pub Refused : StartKind → HostController → ℕ → Refusal → Type 0
+Refused k t n why = (d : HostController) (f : ℕ) (buf m log : List ℕ) → t ≡ observed d f → lent_fits m log ≡ true → length buf ≡ n → start_of d k f buf m log ≡ refuses_start d why m
 
 -- ---- what it hands back
 

@@ -55,29 +55,29 @@ impl HostController {
     }
 
     // No transfer is under way.
-    pub(crate) fn is_idle(self) -> bool
-        ensures { result ≡ idle self }
+    pub(crate) fn is_idle(&self) -> bool
+        ensures { result ≡ idle self.now }
     {
         transfers::begin::is_idle(self.driver.transfer)
     }
 
     // What caller c came with last.
-    pub(crate) fn fields_at(self, c: u8) -> Fields
+    pub(crate) fn fields_at(&self, c: u8) -> Fields
         requires { c < 8 }
-        ensures { result ≡ fields_at self c }
+        ensures { result ≡ fields_at self.now c }
     {
         self.submissions[c as usize]
     }
 
-    fn with_fields(mut self, c: u8, fields: Fields) -> HostController
+    fn with_fields(&mut self, c: u8, fields: Fields)
         requires { c < 8 }
-        ensures { result ≡ with_fields self c fields }
+        ensures { self.new ≡ with_fields self.old c fields }
     {
         self.submissions[c as usize] = fields;
-        self
     }
 
-    // As a look in this frame leaves it.
+    // As a look in this frame leaves it. Inlined, it made a step on the field `driver` 15 instructions dearer (docs/DESIGN-PASS.md, "Speed").
+    #[inline(never)]
     pub(crate) fn observed(self, frame: u32) -> HostController
         ensures { result ≡ observed self frame }
     {
@@ -88,8 +88,8 @@ impl HostController {
     }
 
     // 32, 33, 34, then as begin.
-    fn submit_checks(self, caller: u8, fields: Fields) -> Result<(), SubmitRefusal>
-        ensures { result ≡ submit_checks self caller fields }
+    fn submit_checks(&self, caller: u8, fields: Fields) -> Result<(), SubmitRefusal>
+        ensures { result ≡ submit_checks self.now caller fields }
     {
         if caller > 7 {
             return Err(SubmitRefusal::Caller);
@@ -106,7 +106,7 @@ impl HostController {
 
     // A coming. A refused one changes nothing.
     #[tactic(auto, using(crate::proofs::Replies::submit_row_lem), unfolding(crate::specs::Submit::submit_of))]
-    fn submit(self, caller: u8, fields: Fields, frame: u32) -> SubmitResult
+    fn submit(mut self, caller: u8, fields: Fields, frame: u32) -> SubmitResult
         ensures { (result ≡ submit_of self caller fields frame) × (submit_reply result.answer ≡ submit_row self caller fields) }
     {
         match self.submit_checks(caller, fields) {
@@ -116,14 +116,12 @@ impl HostController {
             },
             Ok(()) => {
                 let bytes = fields.requested();
-                let next = HostController {
-                    dispatcher: self
-                        .dispatcher
-                        .submits(self.is_idle(), caller, bytes, frame),
-                    ..self.with_fields(caller, fields)
-                };
+                let dispatcher = self
+                    .dispatcher
+                    .submits(self.is_idle(), caller, bytes, frame);
+                self.with_fields(caller, fields);
                 SubmitResult {
-                    next,
+                    next: HostController { dispatcher, ..self },
                     answer: Ok(()),
                 }
             }

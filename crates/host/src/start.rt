@@ -94,10 +94,9 @@ impl StartFields for BulkOut {
     }
 }
 
-// What the checks of a start leave: the state as the look leaves it, who starts, and what this call begins with.
+// What the checks of a start leave: who starts, and what this call begins with.
 #[derive(Clone, Copy)]
 pub(crate) struct Admission<T> {
-    pub now: HostController,
     pub next: NextStart,
     pub fields: T,
 }
@@ -120,8 +119,8 @@ fn refuse_start(next: HostController, why: Refusal) -> StartResult
 
 impl HostController {
     // Who starts after a look: all of 16 but the call's kind.
-    fn next_start(self) -> Option<NextStart>
-        ensures { result ≡ next_start self }
+    fn next_start(&self) -> Option<NextStart>
+        ensures { result ≡ next_start self.now }
     {
         let caller = turn_answer(self.dispatcher.whose(self.is_idle()))?;
         let fields = self.fields_at(caller);
@@ -134,39 +133,28 @@ impl HostController {
         Some(NextStart { caller, fields })
     }
 
-    // The checks of a start, in their order; `n` is the length of the buffer lent.
+    // The checks of a start after its look, in their order; `n` is the length of the buffer lent.
     #[tactic(auto, unfolding(crate::specs::Start::start_of))]
-    fn admit<T: StartFields>(
-        self,
-        frame: u32,
-        n: usize,
-        pm: &[u8],
-        log: &[u32],
-    ) -> Result<Admission<T>, Refusal>
-        ensures { MatchResult result (Admitted T.kind T.came self frame n pm.now log.now) (Refused T.kind self frame n pm.now log.now) }
+    fn admit<T: StartFields>(&self, n: usize) -> Result<Admission<T>, Refusal>
+        ensures { MatchResult result (Admitted T.kind T.came self.now n) (Refused T.kind self.now n) }
     {
-        if !lent_fits(pm, log) {
-            return Err(Refusal::LentMemory);
-        }
-        let now = self.observed(frame);
-        let next = now.next_start().ok_or(Refusal::State)?;
+        let next = self.next_start().ok_or(Refusal::State)?;
         let fields = T::of(next.fields).ok_or(Refusal::State)?;
         if n != next.fields.length() {
             return Err(Refusal::LentMemory);
         }
-        Ok(Admission { now, next, fields })
+        Ok(Admission { next, fields })
     }
 
     // The transfer of n has begun, and its bytes are charged.
     fn started(self, n: NextStart, b: Begun) -> StartResult
         ensures { result ≡ started_by self n b }
     {
+        let mut next = self;
+        next.driver = b.next;
+        next.dispatcher = self.dispatcher.starts(n.caller, n.fields.requested());
         StartResult {
-            next: HostController {
-                driver: b.next,
-                dispatcher: self.dispatcher.starts(n.caller, n.fields.requested()),
-                ..self
-            },
+            next,
             answer: Ok(n.caller),
             armed: b.armed,
             writes: b.writes,
@@ -174,43 +162,51 @@ impl HostController {
     }
 
     // A control transfer starts. The three starts stay: `StartKind` and `term3` name them, and a bulk OUT alone writes packet memory.
-    #[tactic(auto, using(crate::proofs::Replies::start_row_lem))]
+    #[tactic(auto, using(crate::proofs::Admitting::start_unlent, crate::proofs::Replies::start_row_lem))]
     pub fn start_control(self, frame: u32, buf: &[u8], pm: &[u8], log: &mut [u32]) -> StartResult
         ensures { DidStart (start_of self StartKind.control frame buf.now pm.now log.old) log.old result pm.now log.new
             × (start_reply result.answer ≡ start_row self StartKind.control frame buf.now pm.now log.old) }
     {
-        match self.admit::<ControlFields>(frame, buf.len(), pm, log) {
+        if !lent_fits(pm, log) {
+            return refuse_start(self, Refusal::LentMemory);
+        }
+        let now = self.observed(frame);
+        match now.admit::<ControlFields>(buf.len()) {
             Err(why) => refuse_start(self, why),
             Ok(a) => {
                 let x = a.fields;
-                let b = a.now.driver.begin_control(
+                let b = now.driver.begin_control(
                     x.address, x.extras, x.size, x.setup, x.phase, buf, pm, log,
                 );
-                a.now.started(a.next, b)
+                now.started(a.next, b)
             }
         }
     }
 
     // A bulk IN transfer starts.
-    #[tactic(auto, using(crate::proofs::Replies::start_row_lem))]
+    #[tactic(auto, using(crate::proofs::Admitting::start_unlent, crate::proofs::Replies::start_row_lem))]
     pub fn start_bulk_in(self, frame: u32, buf: &[u8], pm: &[u8], log: &mut [u32]) -> StartResult
         ensures { DidStart (start_of self StartKind.bulk_in frame buf.now pm.now log.old) log.old result pm.now log.new
             × (start_reply result.answer ≡ start_row self StartKind.bulk_in frame buf.now pm.now log.old) }
     {
-        match self.admit::<BulkIn>(frame, buf.len(), pm, log) {
+        if !lent_fits(pm, log) {
+            return refuse_start(self, Refusal::LentMemory);
+        }
+        let now = self.observed(frame);
+        match now.admit::<BulkIn>(buf.len()) {
             Err(why) => refuse_start(self, why),
             Ok(a) => {
                 let BulkIn(x) = a.fields;
-                let b = a.now.driver.begin_bulk_in(
+                let b = now.driver.begin_bulk_in(
                     x.address, x.endpoint, x.size, x.kind, x.toggle, buf, pm, log,
                 );
-                a.now.started(a.next, b)
+                now.started(a.next, b)
             }
         }
     }
 
     // A bulk OUT transfer starts: its first packets are stored in packet memory.
-    #[tactic(auto, using(crate::proofs::Replies::start_row_lem))]
+    #[tactic(auto, using(crate::proofs::Admitting::start_unlent, crate::proofs::Replies::start_row_lem))]
     pub fn start_bulk_out(
         self,
         frame: u32,
@@ -221,14 +217,18 @@ impl HostController {
         ensures { DidStart (start_of self StartKind.bulk_out frame buf.now pm.old log.old) log.old result pm.new log.new
             × (start_reply result.answer ≡ start_row self StartKind.bulk_out frame buf.now pm.old log.old) }
     {
-        match self.admit::<BulkOut>(frame, buf.len(), pm, log) {
+        if !lent_fits(pm, log) {
+            return refuse_start(self, Refusal::LentMemory);
+        }
+        let now = self.observed(frame);
+        match now.admit::<BulkOut>(buf.len()) {
             Err(why) => refuse_start(self, why),
             Ok(a) => {
                 let BulkOut(x) = a.fields;
-                let b = a.now.driver.begin_bulk_out(
+                let b = now.driver.begin_bulk_out(
                     x.address, x.endpoint, x.size, x.kind, x.toggle, buf, pm, log,
                 );
-                a.now.started(a.next, b)
+                now.started(a.next, b)
             }
         }
     }

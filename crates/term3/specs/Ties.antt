@@ -39,6 +39,6 @@ pub record Ties : Type 0 where
   pub drives : (d : HostController) (c : D.Call) (b : is_begin c ≡ false) → let o = call d (driver c b) in let e = D.call d.driver c in
       (o.next ≡ record { driver = e.next; dispatcher = d.dispatcher; submissions = d.submissions }) × (o.answer ≡ e.answer) × (o.writes ≡ e.writes) × (o.memory ≡ e.memory)
       × (o.armed ≡ e.armed) × (o.failed ≡ e.failed)
-  -- A refused coming's number in `Table` is the one that `number` answers, a refused start's the driver's.
+  -- A refused coming's number in `Table` is the one that `u8::from` gives, a refused start's the driver's.
   pub coming_numbers : (why : SubmitRefusal) → submit_reply (Err why) ≡ number (number_of why)
   pub start_numbers : (why : Refusal) → start_reply (Err why) ≡ number (T.number_of why)

@@ -1,5 +1,5 @@
 -- Laws of the interrupt pipes that the proofs of open, close and poll cite. Assumes nothing.
-use Rattle.std.proofs.Common.{◌≡◌, ℕ, zero, suc, ◌+◌, ◌-◌, ◌≤◌, Bool, true, false, cond, ◌&&◌, leb, List, ◌++◌, length, take, drop, replicate, sym, refl, ap, ◌∙◌, true≢false, arith, length-drop, length-take-le, eqb-true, leb-true, Err, None, Option, Some}
+use Rattle.std.proofs.Common.{◌≡◌, ℕ, zero, suc, ◌+◌, ◌-◌, ◌≤◌, Bool, true, false, cond, ◌&&◌, leb, List, ◌++◌, length, take, drop, replicate, sym, refl, ap, ◌∙◌, true≢false, arith, length-drop, length-take-le, eqb-true, leb-true, None, Option, Some}
 use lib.Seq.{sets, sets-eq}
 use Rattle.pool.specs.declared.bitset.BitSet.{BitSet}
 use Rattle.pool.specs.declared.async_pool.PoolIndex.{PoolIndex}
@@ -7,12 +7,8 @@ use Rattle.pool.specs.declared.pipe.PipeNumber.{PipeNumber}
 use Rattle.pool.specs.Set.{has}
 use Rattle.pool.specs.Pipe.{index_of, Counted}
 use Rattle.pool.proofs.Pipes.{index_counted}
-use Rattle.transfers.specs.declared.refusal.Refusal.{Refusal}
-use Rattle.transfers.specs.declared.driver.Pipes.{Pipes}
-use Rattle.transfers.specs.declared.pipes.Opened.{Opened}
-use Rattle.transfers.specs.declared.pipes.Polled.{Polled}
 use Rattle.transfers.specs.Memory.{memory_fits, log_fits, lent_fits, MemoryFits, LogFits}
-use Rattle.transfers.specs.Pipes.{refuse_open, DidOpen, refuse_poll, DidPoll, no_packet, pipe_area, packet_data, handed_out, index_open}
+use Rattle.transfers.specs.Pipes.{pipe_area, packet_data, handed_out, index_open}
 
 -- A number within bounds.
 pub between : (lo x hi : ℕ) → (leb lo x && leb x hi) ≡ true → (lo ≤ x) × (x ≤ hi)

@@ -1,10 +1,10 @@
 -- Laws of device detection. Assumes nothing.
-use Rattle.std.proofs.Common.{◌≡◌, ℕ, zero, suc, true, false, sym, refl, ap, ◌∙◌, true≢false}
+use Rattle.std.proofs.Common.{◌≡◌, true, false, sym, refl, ap, ◌∙◌, true≢false}
 use Rattle.transfers.specs.declared.host_controller.UsbSpeed.{UsbSpeed}
 use Rattle.transfers.specs.declared.host_controller.UsbSpeed.TheVariants.{Low1_5, Full12}
 use Rattle.transfers.specs.declared.host_controller.DeviceStatus.{DeviceStatus}
 use Rattle.transfers.specs.declared.host_controller.DeviceStatus.TheVariants.{Present, Absent}
-use Rattle.transfers.specs.Detect.{status_at, same_speed, same_status}
+use Rattle.transfers.specs.Detect.{same_speed, same_status}
 
 -- The test says whether two statuses are the same.
 same_speed_lem : (a b : UsbSpeed) → same_speed a b ≡ true → a ≡ b

@@ -47,21 +47,14 @@ impl Driver {
             used: 0,
         };
         log.put(INTE, CONNECT_MASK, CONNECT_MASK);
-        if status == self.last {
-            Detected {
-                next: self,
-                answer: Ok(None),
-                writes: log.used,
-            }
-        } else {
-            Detected {
-                next: Driver {
-                    last: status,
-                    ..self
-                },
-                answer: Ok(Some(status)),
-                writes: log.used,
-            }
+        let changed = status != self.last;
+        Detected {
+            next: Driver {
+                last: status,
+                ..self
+            },
+            answer: Ok(changed.then_some(status)),
+            writes: log.used,
         }
     }
 }
