@@ -1,6 +1,7 @@
 -- The walk answers what is deserved, and nothing else is deserved. Assumes nothing.
 use mathlib.Core.Path.{◌≡◌, refl, sym, ap, ap₂, ◌∙◌}
-use mathlib.Core.Bool.{◌||◌, not}
+use mathlib.Core.Logic.{◌⊎◌}
+use mathlib.Core.Bool.{true, ◌||◌, not}
 use mathlib.Core.List.{List, ◌++◌}
 use Prim.Native.Nat.{ℕ, ◌+◌, ◌*◌, ◌%◌, ◌≤◌, ◌<◌}
 use native.Mathlib.Nat.{add-zero}
@@ -65,11 +66,17 @@ found b at a h =
         (λ f. an_endpoint a p s (search rules) (search rules) (ap (endpoint p) (fields b at (search rules)))))
         (λ e. another_type a p s (search rules) refl)
 
+no_head_of : (b : List ℕ) → (ltb (length b) 9 || not (eqb (get_or b 1 0) 2)) ≡ true → (length b < 9) ⊎ (get_or b 1 0 ≡ 2 → ⊥)
+no_head_of b e = search rules
+
+wrong_total_lem : (b : List ℕ) → (ltb (total_of b) 9 || ltb (length b) (total_of b)) ≡ true → (total_of b < 9) ⊎ (length b < total_of b)
+wrong_total_lem b e = search rules
+
 pub deserved : (b : List ℕ) (at : ℕ) → Deserves b at (walk_of b at)
 unfolding walk_of
 deserved b at =
-    cond_both (ltb (length b) 9 || not (eqb (get_or b 1 0) 2)) (refused 24) _ (Deserves b at) (λ e. no_head (search rules) refl)
-    (λ e. cond_both (ltb (total_of b) 9 || ltb (length b) (total_of b)) (refused 23) _ (Deserves b at) (λ f. wrong_total (search rules) (search rules) refl)
+    cond_both (ltb (length b) 9 || not (eqb (get_or b 1 0) 2)) (refused 24) _ (Deserves b at) (λ e. no_head (no_head_of b e) refl)
+    (λ e. cond_both (ltb (total_of b) 9 || ltb (length b) (total_of b)) (refused 23) _ (Deserves b at) (λ f. wrong_total (search rules) (wrong_total_lem b f) refl)
     (λ f. cond_both (leb (total_of b) at) end (inside_answer b at) (Deserves b at) (λ g. at_end (search rules) (search rules) refl)
     (λ g. found b at (search rules) (search rules))))
 
