@@ -1,6 +1,6 @@
 // The output's text, put into lent bytes from a place on, each function answering the place after it; or into a `Text`, which keeps its place. A text that doesn't fit is left out.
 // Bytes and place stay two parameters of the functions: `Placed` speaks of both.
-ghost use Rattle.std.specs.Prelude.{◌≡◌, [], ◌∷◌, ◌+◌, ◌*◌, ◌/◌, ◌%◌, ◌≤◌, ◌<◌, length, take, SomeIff};
+ghost use Rattle.std.specs.Prelude.{◌≡◌, [], ◌∷◌, ◌+◌, ◌*◌, ◌/◌, ◌%◌, ◌≤◌, ◌<◌, length, take, replicate, SomeIff};
 ghost use Rattle.std.proofs.lemmas.List.Edits.{sets};
 ghost use Rattle.io.specs.Digits.{hex_digit_ascii as digitText};
 ghost use Rattle.script.specs.Text.{Placed, PlacedDecimal, PlacedHex, hex_of, pairs_text};
@@ -89,9 +89,10 @@ pub struct Text<const N: usize> {
 }
 
 impl<const N: usize> Text<N> {
+    // Inlined, so that the room is made in its place.
     #[inline(always)]
     pub fn new() -> Text<N>
-        ensures { result.used ≡ 0 }
+        ensures { (result.room ≡ replicate N 0) × (result.used ≡ 0) }
     {
         Text {
             room: [0; N],

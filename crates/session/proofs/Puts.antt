@@ -65,9 +65,6 @@ puts_placed a b text p =
 pub puts_decimal : {N : ℕ} (a b : Text N) (n : ℕ) → n < 2 ^ 64 → PlacedDecimal a.room a.used n b.room b.used → Puts a (decimal n) b
 puts_decimal a b n small p = puts_placed a b (decimal n) (decimal_placed a.room a.used n b.room b.used small p)
 
-take_less : (m n : ℕ) (l : List ℕ) → m ≤ n → take m (take n l) ≡ take m l
-take_less m n l h = take-take m n l h
-
 pub puts_more : {N : ℕ} (a b c : Text N) (s t : List ℕ) → Puts a s b → Puts b t c → Puts a (s ++ t) c
 puts_more a b c s t p q =
     let both : length (s ++ t) ≡ length s + length t = length-append s t in
@@ -75,7 +72,7 @@ puts_more a b c s t p q =
     let second : a.used + length (s ++ t) ≤ length a.room → b.used + length t ≤ length b.room = λ h. omega (arith, p.used (first h), p.room) in
     record {
       room = q.room ∙ p.room;
-      stays = sym (take_less a.used b.used c.room p.on) ∙ ap (take a.used) q.stays ∙ take_less a.used b.used b.room p.on ∙ p.stays;
+      stays = sym (take-take a.used b.used c.room p.on) ∙ ap (take a.used) q.stays ∙ take-take a.used b.used b.room p.on ∙ p.stays;
       on = omega (arith, p.on, q.on);
       kept = λ h. q.kept (second h) ∙ ap (λ (l : List ℕ). l ++ t) (p.kept (first h)) ∙ append_assoc (kept a) s t;
       used = λ h. omega (arith, p.used (first h), q.used (second h));

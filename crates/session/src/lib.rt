@@ -1,4 +1,5 @@
 // What the programs that play a script share: the input's lines, the session that they leave behind, every line that begins no transfer, and the lines of a block.
+// What makes a room is inlined, here and in the programs, so that the room is made in its place: docs/DESIGN-PASS.md, "Speed".
 #![tactic(auto)]
 
 mod answers;
