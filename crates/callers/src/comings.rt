@@ -4,7 +4,7 @@ use host::controller::{HostController, SubmitResult};
 use script::command::{Bulk, Control};
 use session::begin::{extras_of, kind_of, packet_of};
 use session::output::{Output, put_number};
-use session::print::{Came, print_answer, print_block_end};
+use session::print::{Came, put_answer, print_block_end};
 use transfers::host_controller::DataPhase;
 use transfers::refusal::Refusal;
 use transfers::wire::Direction;
@@ -46,7 +46,7 @@ fn submit_bulk(
 impl Callers {
     fn submitted(&mut self, r: SubmitResult, out: &mut Output) {
         self.set_host(r.next);
-        print_answer(out, r.answer.map(|()| "waiting"));
+        put_answer(out, r.answer.map(|()| "waiting"));
         print_block_end(out)
     }
 
@@ -72,7 +72,7 @@ impl Callers {
     pub fn look(&mut self, out: &mut Output) {
         let t = self.host().whose_turn(self.frame);
         self.set_host(t.next);
-        print_answer(out, Ok::<Turn, Refusal>(Turn(t.answer)));
+        put_answer(out, Ok::<Turn, Refusal>(Turn(t.answer)));
         print_block_end(out)
     }
 }

@@ -8,9 +8,9 @@ mod starts;
 mod state;
 
 use crate::state::Callers;
-use session::player::play_all;
+use session::player::play_script;
 use std::io;
 
 fn main(rt: HostRuntime) -> io::Result<()> {
-    play_all(&mut Callers::new(), &mut rt.stdin(), &mut rt.stdout())
+    play_script(&mut Callers::new(), &mut rt.stdin(), &mut rt.stdout())
 }

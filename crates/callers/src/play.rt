@@ -3,7 +3,7 @@ use crate::line::{Command, parse};
 use crate::state::Callers;
 use script::command::Call;
 use session::output::Output;
-use session::player::Play;
+use session::player::PlayScript;
 use session::print::print_ok;
 
 impl Callers {
@@ -16,7 +16,7 @@ impl Callers {
     }
 }
 
-impl Play for Callers {
+impl PlayScript for Callers {
     fn play(&mut self, number: usize, text: &[u8], out: &mut Output) {
         match parse(text, &mut self.session.bytes) {
             Command::ComeControl(caller, phase, c) => self.come_control(caller, phase, c, out),

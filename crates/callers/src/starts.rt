@@ -4,7 +4,7 @@ use crate::state::Callers;
 use host::start::StartResult;
 use session::log::Log;
 use session::output::{Output, put_number};
-use session::print::{Came, print_answer};
+use session::print::{Came, put_answer};
 
 // The caller whose transfer a start begins, as the answer's line spells it.
 #[derive(Clone, Copy)]
@@ -43,7 +43,7 @@ impl Callers {
             self.session.keep(count, !matches!(kind, Kind::Control));
         }
         self.set_host(r.next);
-        print_answer(out, r.answer.map(|caller| Started(caller)));
+        put_answer(out, r.answer.map(|caller| Started(caller)));
         self.session
             .state
             .finish(r.armed, r.writes, &old, &log, out)

@@ -4,7 +4,7 @@ use session::begin::{extras_of, kind_of, packet_of};
 use session::log::Log;
 use session::output::Output;
 use session::play::Session;
-use session::print::print_answer;
+use session::print::put_answer;
 use transfers::control::Begun;
 use transfers::host_controller::DataPhase;
 use transfers::wire::Direction;
@@ -98,7 +98,7 @@ impl Begin {
             s.keep(self.count(), self.is_bulk());
         }
         s.state.driver = begun.next;
-        print_answer(out, begun.answer.map(|()| "begun"));
+        put_answer(out, begun.answer.map(|()| "begun"));
         s.state.finish(begun.armed, begun.writes, &old, &log, out)
     }
 }

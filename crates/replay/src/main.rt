@@ -5,9 +5,9 @@ mod begin;
 mod play;
 
 use crate::play::Replay;
-use session::player::play_all;
+use session::player::play_script;
 use std::io;
 
 fn main(rt: HostRuntime) -> io::Result<()> {
-    play_all(&mut Replay::new(), &mut rt.stdin(), &mut rt.stdout())
+    play_script(&mut Replay::new(), &mut rt.stdin(), &mut rt.stdout())
 }

@@ -4,7 +4,7 @@ use script::command::Command;
 use script::line::parse;
 use session::output::Output;
 use session::play::Session;
-use session::player::Play;
+use session::player::PlayScript;
 use transfers::host_controller::DataPhase;
 use transfers::wire::Direction;
 
@@ -22,7 +22,7 @@ impl Replay {
     }
 }
 
-impl Play for Replay {
+impl PlayScript for Replay {
     fn play(&mut self, number: usize, text: &[u8], out: &mut Output) {
         let begin = match parse(text, &mut self.session.bytes) {
             Command::ControlIn(c) => Begin::Control(DataPhase::In, c),

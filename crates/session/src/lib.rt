@@ -5,6 +5,7 @@
 mod answers;
 mod armed;
 pub mod begin;
+mod cursor;
 mod effects;
 pub mod log;
 pub mod output;
@@ -16,3 +17,5 @@ mod read;
 mod runs;
 pub mod state;
 mod step;
+#[cfg(test)]
+mod tests;

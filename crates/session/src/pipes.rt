@@ -3,7 +3,7 @@ use crate::answers::Outcome;
 use crate::begin::extras_of;
 use crate::log::Log;
 use crate::output::Output;
-use crate::print::{print_answer, print_block_end};
+use crate::print::{print_block_end, put_answer};
 use crate::state::State;
 use pool::pipe::PipeNumber;
 use script::command::{Interrupt, Opening, Polling};
@@ -28,7 +28,7 @@ impl State {
             .driver
             .open(c.address, extras, c.endpoint, c.size, c.interval, lent);
         self.driver = o.next;
-        print_answer(out, o.answer.map(|pipe| Outcome::Pipe(pipe)));
+        put_answer(out, o.answer.map(|pipe| Outcome::Pipe(pipe)));
         log.print(out, o.writes);
         print_block_end(out)
     }
@@ -36,7 +36,7 @@ impl State {
     pub(crate) fn close(&mut self, pipe: u8, out: &mut Output) {
         let c = self.driver.close(PipeNumber(pipe));
         self.driver = c.next;
-        print_answer(out, c.answer.map(|()| "closed"));
+        put_answer(out, c.answer.map(|()| "closed"));
         print_block_end(out)
     }
 
@@ -53,7 +53,7 @@ impl State {
             log.lent(self.words),
         );
         self.driver = p.next;
-        print_answer(out, p.answer.map(|poll| outcome(poll, p.packet)));
+        put_answer(out, p.answer.map(|poll| outcome(poll, p.packet)));
         log.print(out, p.writes);
         print_block_end(out)
     }
@@ -61,7 +61,7 @@ impl State {
     pub(crate) fn irq(&self, c: Interrupt, out: &mut Output) {
         let mut log = Log::new();
         let w = on_irq(c.ints, c.status, log.lent(self.words));
-        print_answer(out, w.answer.map(|wake| Outcome::Wake(wake)));
+        put_answer(out, w.answer.map(|wake| Outcome::Wake(wake)));
         log.print(out, w.writes);
         print_block_end(out)
     }
@@ -70,7 +70,7 @@ impl State {
         let mut log = Log::new();
         let d = self.driver.detect(status, log.lent(self.words));
         self.driver = d.next;
-        print_answer(out, d.answer.map(|device| Outcome::Device(device)));
+        put_answer(out, d.answer.map(|device| Outcome::Device(device)));
         log.print(out, d.writes);
         print_block_end(out)
     }

@@ -3,19 +3,26 @@ ghost use Rattle.std.specs.Prelude.{◌≡◌, OnOk};
 ghost use Rattle.std.specs.Io.KnownBytes.{Appends};
 ghost use Rattle.session.specs.Prints.{kept, Grows};
 
+use crate::cursor;
 use crate::output::Output;
 use crate::play::unreadable;
 use crate::read::{Lines, Turn};
 use std::io;
-use std::io::{Read, Write};
+use std::io::{Cursor, Read, Write};
 
 // A program that plays a script.
-pub trait Play {
+pub trait PlayScript {
     // Plays the line of this number and text, and prints its block.
     fn play(&mut self, number: usize, text: &[u8], out: &mut Output);
 }
 
-fn play_line<P: Play>(player: &mut P, lines: &Lines, out: &mut Output) {
+// A program that plays a script and prints to any writer, which may fail.
+pub trait Play {
+    // Plays the line of this number and text, and prints its block.
+    fn play<W: Write>(&mut self, number: usize, text: &[u8], out: &mut W) -> io::Result<()>;
+}
+
+fn play_line<P: PlayScript>(player: &mut P, lines: &Lines, out: &mut Output) {
     match lines.text() {
         Some(text) => player.play(lines.number(), text, out),
         None => unreadable(out, lines.number()),
@@ -43,7 +50,7 @@ fn flush_long<W: Write>(to: &mut W, out: &mut Output) -> io::Result<()>
     flush(to, out)
 }
 
-fn play_whole<P: Play, W: Write>(
+fn play_whole<P: PlayScript, W: Write>(
     player: &mut P,
     lines: &Lines,
     to: &mut W,
@@ -56,7 +63,7 @@ fn play_whole<P: Play, W: Write>(
 }
 
 // A proved loop has to end, and nothing says that the input does: it counts up to a number that no run uses up.
-fn play_lines<P: Play, R: Read, W: Write>(
+fn play_lines<P: PlayScript, R: Read, W: Write>(
     player: &mut P,
     input: &mut R,
     to: &mut W,
@@ -81,7 +88,7 @@ fn play_lines<P: Play, R: Read, W: Write>(
 
 // Plays each line of the input. Where a read fails, the answers to the lines before it are written out first.
 // Which blocks these are, no clause says: each program's stored output holds it.
-pub fn play_all<P: Play, R: Read, W: Write>(
+pub fn play_script<P: PlayScript, R: Read, W: Write>(
     player: &mut P,
     input: &mut R,
     to: &mut W,
@@ -90,4 +97,16 @@ pub fn play_all<P: Play, R: Read, W: Write>(
 {
     let mut out = Output::new();
     play_lines(player, input, to, &mut out)
+}
+
+// The same of a program that prints to a writer. Where its printing fails, nothing more is played.
+pub fn play_all<P: Play, R: Read, W: Write>(
+    player: &mut P,
+    input: &mut R,
+    to: &mut W,
+) -> io::Result<()>
+    ensures { OnOk result (Grows (W.contents to.old) (W.contents to.new)) }
+{
+    let mut out = Cursor::new([0u8; 1048576]);
+    cursor::play_lines(player, input, to, &mut out)
 }

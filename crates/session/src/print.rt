@@ -1,9 +1,13 @@
 // The lines of a block.
-ghost use Rattle.std.specs.Prelude.{◌++◌, ℕ, List, Option, Some, None, IfOk, IfSome, codes};
+ghost use Rattle.std.specs.Prelude.{◌++◌, ℕ, List, Option, Some, None, OnOk, IfOk, IfSome, codes};
 ghost use Rattle.std.specs.Fmt.{decimal};
+ghost use Rattle.std.specs.Io.KnownBytes.{Appends};
 ghost use Rattle.session.specs.Prints.{Puts};
 
 use crate::output::{Output, put_number};
+use std::fmt::Display;
+use std::io;
+use std::io::Write;
 
 // What came of a call that isn't refused.
 pub trait Came {
@@ -23,7 +27,7 @@ impl Came for &str {
 }
 
 // The answer's line: what came of the call, or the refusal's number.
-pub fn print_answer<T: Came, E>(out: &mut Output, answer: Result<T, E>)
+pub fn put_answer<T: Came, E>(out: &mut Output, answer: Result<T, E>)
 where
     u8: From<E>,
     ensures { IfOk answer (λ came. IfSome (T.spelling came) (λ text. Puts out.old (codes "answer " ++ text ++ codes "\n") out.new)) }
@@ -34,11 +38,11 @@ where
             came.put(out);
             out.put(b"\n");
         }
-        Err(why) => print_refused(out, u8::from(why)),
+        Err(why) => put_refused(out, u8::from(why)),
     }
 }
 
-fn print_refused(out: &mut Output, n: u8)
+fn put_refused(out: &mut Output, n: u8)
     ensures { Puts out.old (codes "answer refused " ++ decimal n ++ codes "\n") out.new }
 {
     out.put(b"answer refused");
@@ -57,4 +61,26 @@ pub fn print_block_end(out: &mut Output)
     ensures { Puts out.old (codes ".\n") out.new }
 {
     out.put(b".\n");
+}
+
+// The answer's line to any writer: of what came whatever is spelled, however long.
+pub fn print_answer<W: Write, T: Display + Drop, E>(
+    out: &mut W,
+    answer: Result<T, E>,
+) -> io::Result<()>
+where
+    u8: From<E>,
+    ensures { OnOk result (IfOk answer (λ came. IfSome (T.output came) (λ text.
+        Appends (W.contents out.old) (W.contents out.new) (codes "answer " ++ text ++ codes "\n")))) }
+{
+    match answer {
+        Ok(came) => writeln!(out, "answer {came}"),
+        Err(why) => print_refused(out, u8::from(why)),
+    }
+}
+
+fn print_refused<W: Write>(out: &mut W, n: u8) -> io::Result<()>
+    ensures { OnOk result (Appends (W.contents out.old) (W.contents out.new) (codes "answer refused " ++ decimal n ++ codes "\n")) }
+{
+    writeln!(out, "answer refused {n}")
 }

@@ -3,7 +3,7 @@ use crate::answers::Outcome;
 use crate::effects::print_effects;
 use crate::log::Log;
 use crate::output::{Output, put_number};
-use crate::print::{print_answer, print_block_end};
+use crate::print::{print_block_end, put_answer};
 use crate::runs::print_runs;
 use crate::state::{NOTHING_ARMED, State};
 use script::command::Stepping;
@@ -38,7 +38,7 @@ impl State {
     fn report(&mut self, p: Stepped, old: &[u8; 4096], log: &Log, out: &mut Output) {
         let toggle = self.bulk.then_some(p.toggle);
         self.driver = p.next;
-        print_answer(out, p.answer.map(|step| Outcome::Step(step, toggle)));
+        put_answer(out, p.answer.map(|step| Outcome::Step(step, toggle)));
         print_failed(out, p.failed, toggle);
         print_effects(out, log, p.writes, p.armed, old, &self.pm);
         self.write_record(p.armed, p.failed);
@@ -79,7 +79,7 @@ impl State {
     pub(crate) fn cancel(&mut self, out: &mut Output) {
         let c = self.driver.cancel();
         self.driver = c.next;
-        print_answer(out, c.answer.map(|()| "cancelled"));
+        put_answer(out, c.answer.map(|()| "cancelled"));
         print_failed(out, c.failed, self.bulk.then_some(c.toggle));
         self.write_record(NOTHING_ARMED, c.failed);
         print_block_end(out)

@@ -1,7 +1,7 @@
 use Rattle.std.proofs.Common.{codes, ◌++◌}
 use Rattle.std.specs.Fmt.{decimal}
 use Rattle.session.proofs.Puts.{puts_placed, puts_more}
-use Rattle.session.proofs.print.print_refused.Goals as goal
+use Rattle.session.proofs.print.put_refused.Goals as goal
 
 pub returns : goal.returns
 returns c =
