@@ -4,7 +4,7 @@ use host::controller::{HostController, SubmitResult};
 use script::command::{Bulk, Control};
 use session::begin::{extras_of, kind_of, packet_of};
 use session::output::{Output, put_number};
-use session::print::{Came, put_answer, print_block_end};
+use session::print::{Came, print_block_end, put_answer};
 use transfers::host_controller::DataPhase;
 use transfers::refusal::Refusal;
 use transfers::wire::Direction;
