@@ -32,7 +32,7 @@ fn flush<W: Write, const N: usize>(to: &mut W, out: &mut Cursor<[u8; N]>) -> io:
     to.write_all(out.get_ref().get(..at).unwrap_or_default())
 }
 
-// After a block: an output that is long enough is written out.
+// After a block: an output that is long enough is written out. A block of at most 983,041 bytes finds room behind less than 65,536; printing a longer one may fail.
 #[tactic(auto, using(crate::proofs::Grows::grows_refl))]
 fn flush_long<W: Write, const N: usize>(to: &mut W, out: &mut Cursor<[u8; N]>) -> io::Result<()>
     ensures { OnOk result (Grows (W.contents to.old) (W.contents to.new)) }

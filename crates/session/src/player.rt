@@ -39,7 +39,7 @@ fn flush<W: Write>(to: &mut W, out: &mut Output) -> io::Result<()>
     written
 }
 
-// After a block: an output that is long enough is written out. A block has at most 903,995 bytes, so that with less than 65,536 before it 1,048,576 are room enough.
+// After a block: an output that is long enough is written out. A block has at most 888,617 bytes, so that with less than 65,536 before it 1,048,576 are room enough.
 #[tactic(auto, using(crate::proofs::Grows::grows_refl, crate::proofs::Grows::grows_by))]
 fn flush_long<W: Write>(to: &mut W, out: &mut Output) -> io::Result<()>
     ensures { OnOk result (Grows (W.contents to.old) (W.contents to.new)) }
@@ -99,7 +99,8 @@ pub fn play_script<P: PlayScript, R: Read, W: Write>(
     play_lines(player, input, to, &mut out)
 }
 
-// The same of a program that prints to a writer. Where its printing fails, nothing more is played.
+// Plays each line of the input by a program that prints to a writer. Where its printing fails, nothing more is read, and what waits is not written.
+// Where a read fails, the answers to the lines before it are written out first.
 pub fn play_all<P: Play, R: Read, W: Write>(
     player: &mut P,
     input: &mut R,

@@ -121,9 +121,11 @@ fn stops_where_it_fails(rt: HostRuntime) {
     let stopped = play_all(&mut echo, &mut b"one\nstop\ntwo\n".as_slice(), &mut out);
     assert!(rt; stopped.is_err());
     assert_eq!(rt; echo.last, 2);
+    assert_eq!(rt; written(&out), b"".as_slice());
     let mut out = Cursor::new([0u8; 64]);
     assert!(rt; play_all(&mut echo, &mut CutOff(b"one\ntwo\nth"), &mut out).is_err());
     assert_eq!(rt; written(&out), b"one 1\n.\ntwo 2\n.\n".as_slice());
     let mut full = Count { bytes: 0, taken: 5 };
     assert!(rt; play_all(&mut echo, &mut b"one\n".as_slice(), &mut full).is_err());
+    assert_eq!(rt; full.bytes, 0);
 }
