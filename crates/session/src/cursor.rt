@@ -6,20 +6,22 @@ ghost use Rattle.session.specs.Prints.{Grows};
 
 use crate::player::Play;
 use crate::read::{Lines, Turn};
+use printing::print_unreadable;
 use std::io;
 use std::io::{Cursor, Read, Write};
 
 // The block of a line that can't be read.
-fn print_unreadable<W: Write>(out: &mut W, number: usize) -> io::Result<()>
+fn unreadable<W: Write>(out: &mut W, number: usize) -> io::Result<()>
     ensures { OnOk result (Appends (W.contents out.old) (W.contents out.new) (codes "line " ++ decimal number ++ codes ": not a line of a script\n.\n")) }
 {
-    writeln!(out, "line {number}: not a line of a script\n.")
+    print_unreadable(out, number)?;
+    writeln!(out, ".")
 }
 
 fn play_line<P: Play, W: Write>(player: &mut P, lines: &Lines, out: &mut W) -> io::Result<()> {
     match lines.text() {
         Some(text) => player.play(lines.number(), text, out),
-        None => print_unreadable(out, lines.number()),
+        None => unreadable(out, lines.number()),
     }
 }
 

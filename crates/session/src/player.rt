@@ -10,7 +10,7 @@ use crate::read::{Lines, Turn};
 use std::io;
 use std::io::{Cursor, Read, Write};
 
-// A program that plays a script.
+// A program that plays a script and prints to the room of its blocks, which can't fail.
 pub trait PlayScript {
     // Plays the line of this number and text, and prints its block.
     fn play(&mut self, number: usize, text: &[u8], out: &mut Output);

@@ -63,7 +63,7 @@ pub fn print_block_end(out: &mut Output)
     out.put(b".\n");
 }
 
-// The answer's line to any writer: of what came whatever is spelled, however long.
+// The answer's line to any writer, of what is `Display` and of any length.
 pub fn print_answer<W: Write, T: Display + Drop, E>(
     out: &mut W,
     answer: Result<T, E>,

@@ -6,7 +6,7 @@ use std::test::Fail;
 use std::{fmt, io};
 use transfers::refusal::Refusal;
 
-// So many letters: one answer more than an `Output` has room for.
+// So many letters.
 #[derive(Clone, Copy)]
 struct Letters(usize);
 
@@ -88,6 +88,7 @@ fn answers_any_writer(rt: HostRuntime) -> Result<(), Fail> {
     print_answer(&mut out, Err::<u32, Refusal>(Refusal::State))?;
     let want = b"answer 7\nanswer begun\nanswer refused 16\n";
     assert_eq!(rt; written(&out), want.as_slice());
+    // Of an answer longer than an `Output` nothing is left out.
     let mut count = Count {
         bytes: 0,
         taken: 1_048_585,
